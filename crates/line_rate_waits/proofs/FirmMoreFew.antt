@@ -18,11 +18,11 @@ use Rattle.line_rate_waits.proofs.MoreFollowings.{shares_shares}
 use Rattle.line_rate_waits.proofs.OneRoundFamily.{downs, length-downs, starts_more}
 use Rattle.line_rate_waits.proofs.MoreRoundsFamily.{sharings, starts_more_sharings}
 use Rattle.line_rate_waits.proofs.MoreOpenings.{length-sharings}
-use Rattle.line_rate_waits.proofs.FirmFamily.{hands}
-use Rattle.line_rate_waits.proofs.FirmMoreSlots.{firm_in, IsSwitch-after_firm_in, IsFirmLateIn, firm_many_step_of, late_first}
+use Rattle.line_rate_waits.proofs.FirmSlots.{firm_decided, IsSwitch-after_firm, IsFirmLate, firm_step_of, late_first}
+use Rattle.line_rate_waits.proofs.FirmTurns.{hands, IsTurn, late_lowers, firm_late_comes}
 use Rattle.line_rate_waits.proofs.FirmMoreShapes.{nearer}
 use Rattle.line_rate_waits.proofs.FirmMoreFollowings.{hands_joining, hands_ends, hands_shares, shares_other, shares_ends, ends_lowers}
-use Rattle.line_rate_waits.proofs.FirmMoreFamily.{climbs, length-climbs, starts_climbs, IsTurn, late_climbs, late_lowers, firm_late_comes}
+use Rattle.line_rate_waits.proofs.FirmMoreFamily.{climbs, length-climbs, starts_climbs, late_climbs}
 
 -- the slot in which input l takes output 0, and those in which input 0 goes down from output a
 abbrev final : ℕ → ℕ → ℕ → List Plan
@@ -60,34 +60,34 @@ module _ (rounds n l : ℕ) (two : 1 < rounds) (ports : 1 < n) (sum : l + 1 ≡ 
 
   -- input l takes output 0, and then input 0 goes down from output a
   late_final : (a t : ℕ) (places : Places) → 0 < a → a < n → IsSwitch n places → grant_of places 0 0 ≡ l → accept_of places 0 0 ≡ a
-      → IsFirmLateIn rounds n t places (final n l a)
+      → IsFirmLate rounds n t places (final n l a)
   late_final a t places some_a a_in switch grant at =
       let it = ends l in
       let suits = suits_ends n places l (omega arith) grant in
-      let step = firm_many_step_of rounds n t places it some some_rounds switch suits in
+      let step = firm_step_of rounds n t places it some some_rounds switch suits in
       let round : (l + 1) % n ≡ 0 = mod_once n (l + 1) (omega arith) (omega arith) ∙ omega arith in
       late_first rounds n t places it some some_rounds switch suits (downs 0 a (n - a) (ends 0 ∷ [])) l 0 (inl (refl, refl)) (inr (omega arith, refl))
       (starts_more (Follows it) 0 (n - a) a (ends 0 ∷ []) (omega arith) (ends_lowers l a))
-      (late_lowers rounds n two ports (n - a) a (t + 1) (firm_in rounds n t places it).places some_a (omega arith)
-      (IsSwitch-after_firm_in rounds n t places it switch) (step.granted l 0 (inl (refl, refl)) ∙ round)
+      (late_lowers rounds n some_rounds ports (n - a) a (t + 1) (firm_decided rounds n t places it).places some_a (omega arith)
+      (IsSwitch-after_firm rounds n t places it switch) (step.granted l 0 (inl (refl, refl)) ∙ round)
       (step.accept_stays 0 (λ j is. elim is [ inl s ↦ let e = s.0 in omega arith | inr none ↦ none ]) ∙ at ∙ sym (mod-eq_of_lt a_in)))
 
   -- input l takes output a, and input 0 output z
   late_shared : (z a t : ℕ) (places : Places) (rest : List Plan) → 0 < z → z < n → 0 < a → a < n → (a ≡ z → ⊥) → IsLast n places l a
       → Starts (Follows (shares z l a)) rest
-      → ((after : Places) → IsLast n after l (a + 1) → accept_of after 0 0 ≡ (z + 1) % n → IsFirmLateIn rounds n (t + 1) after rest)
-      → IsFirmLateIn rounds n t places (shares z l a ∷ rest)
+      → ((after : Places) → IsLast n after l (a + 1) → accept_of after 0 0 ≡ (z + 1) % n → IsFirmLate rounds n (t + 1) after rest)
+      → IsFirmLate rounds n t places (shares z l a ∷ rest)
   late_shared z a t places rest some_z z_in some_a a_in other last starts then =
       let it = shares z l a in
       let from = grant_of places 0 0 in
       let suits = suits_shares n places z l a (omega arith) (omega arith) some_a a_in some_z z_in other
       (nearer n from l 0 (omega arith) some (λ e. omega arith) last.grant) (last.accept ∙ mod-eq_of_lt a_in) in
-      let step = firm_many_step_of rounds n t places it some some_rounds last.switch suits in
-      let after = (firm_in rounds n t places it).places in
+      let step = firm_step_of rounds n t places it some some_rounds last.switch suits in
+      let after = (firm_decided rounds n t places it).places in
       let to_l : (v : ℕ) → distance n from l ≤ distance n from v = λ v. at_first n from l v (omega arith) last.grant in
       let nearest : AreNear n places it l 0 = (λ e. to_l 0, (λ e. to_l l, (λ e. to_l l, (λ e. to_l 0, tt)))) in
       let next : IsLast n after l (a + 1) = record {
-        switch = IsSwitch-after_firm_in rounds n t places it last.switch;
+        switch = IsSwitch-after_firm rounds n t places it last.switch;
         grant = step.held l 0 (omega arith, some, inr (inl (refl, refl))) nearest
             (λ is. elim is [ inl s ↦ let e = s.1 in omega arith | inr more ↦ elim more [ inl s ↦ let e = s.1 in omega arith | inr none ↦ none ] ]);
         accept = step.accepted l a (inl (refl, refl));
@@ -97,9 +97,9 @@ module _ (rounds n l : ℕ) (two : 1 < rounds) (ports : 1 < n) (sum : l + 1 ≡ 
 
   -- input l goes down from output a, and input 0 takes output 1 in each of its slots
   late_sharings : (rest : List Plan) → ((a : ℕ) → Starts (Follows (shares 1 l a)) rest)
-      → ((t : ℕ) (places : Places) → IsLast n places l n → accept_of places 0 0 ≡ 2 % n → IsFirmLateIn rounds n t places rest)
+      → ((t : ℕ) (places : Places) → IsLast n places l n → accept_of places 0 0 ≡ 2 % n → IsFirmLate rounds n t places rest)
       → (k a t : ℕ) (places : Places) → 1 < a → a + k ≡ n → IsLast n places l a → (2 < a → accept_of places 0 0 ≡ 2 % n) → 2 < n
-      → IsFirmLateIn rounds n t places (sharings 1 l a k rest)
+      → IsFirmLate rounds n t places (sharings 1 l a k rest)
   late_sharings rest starts then zero a t places more all last at three =
       let e : a ≡ n = omega arith in
       then t places (subst (λ v. IsLast n places l v) e last) (at (omega arith))
@@ -111,7 +111,7 @@ module _ (rounds n l : ℕ) (two : 1 < rounds) (ports : 1 < n) (sum : l + 1 ≡ 
         follows (suc k) = shares_shares 1 l a
 
   -- all of the family
-  late_family : (t : ℕ) (places : Places) → 2 < n → IsTurn n places 1 1 → IsFirmLateIn rounds n t places (family n l)
+  late_family : (t : ℕ) (places : Places) → 2 < n → IsTurn n places 1 1 → IsFirmLate rounds n t places (family n l)
   late_family t places three turn =
       let down = sharings 1 l 2 (n - 2) (final n l 2) in
       late_climbs rounds n two ports l (shares 2 l 1 ∷ down) (omega arith)
@@ -135,17 +135,15 @@ more_than_two n rounds three few two =
     let l = n - 1 in
     let down = shares 2 l 1 ∷ sharings 1 l 2 (n - 2) (final n l 2) in
     let starts = starts_climbs (Follows (hands 0 1)) n (n - 2) 1 down (omega arith) (hands_joining 0 1) (λ none. absurd (omega arith)) in
-    let found = firm_late_comes rounds n (omega arith) (omega arith) (family n l) starts (omega arith)
-    (λ t places turn. late_family rounds n l two (omega arith) (omega arith) t places three turn) in
-    (found.0, found.1, ap (λ v. v + 1) found.2 ∙ length-family n l (n - 3) (omega arith))
+    firm_late_comes rounds n (omega arith) (omega arith) (family n l) starts (omega arith) (λ v. v + 1 ≡ n * n) (length-family n l (n - 3) (omega arith))
+    (λ t places turn. late_family rounds n l two (omega arith) (omega arith) t places three turn)
 
 -- two ports
 two_ports : (rounds : ℕ) → 1 < rounds → Reached rounds 2
 two_ports rounds two =
-    let found = firm_late_comes rounds 2 (omega arith) (omega arith) (final 2 1 1) (hands_ends 0 1) (omega arith)
+    firm_late_comes rounds 2 (omega arith) (omega arith) (final 2 1 1) (hands_ends 0 1) (omega arith) (λ v. v + 1 ≡ 2 * 2) refl
     (λ t places turn. late_final rounds 2 1 two (omega arith) refl 1 t places (omega arith) (omega arith) turn.switch turn.grant
-    (turn.others 0 (omega arith) (λ e. omega arith))) in
-    (found.0, found.1, ap (λ v. v + 1) found.2)
+    (turn.others 0 (omega arith) (λ e. omega arith)))
 
 -- for two to four ports
 pub firm_comes_with_few_ports : (n rounds : ℕ) → 1 < n → n < 5 → 1 < rounds → Reached rounds n

@@ -5,7 +5,7 @@ use Rattle.line_rate_waits.proofs.PlannedRuns.{Follows, AreApart}
 use Rattle.line_rate_waits.proofs.Shapes.{takes, ends}
 use Rattle.line_rate_waits.proofs.Followings.{one_apart}
 use Rattle.line_rate_waits.proofs.MoreShapes.{shares}
-use Rattle.line_rate_waits.proofs.FirmFamily.{hands}
+use Rattle.line_rate_waits.proofs.FirmTurns.{hands}
 use Rattle.line_rate_waits.proofs.FirmMoreShapes.{joining, prepares, blocking, leaves_both}
 
 -- the requests of two inputs

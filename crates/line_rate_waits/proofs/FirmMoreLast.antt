@@ -21,14 +21,14 @@ use Rattle.line_rate_waits.proofs.PlannedSlots.{AreNear}
 use Rattle.line_rate_waits.proofs.PlannedRuns.{Follows, Starts}
 use Rattle.line_rate_waits.proofs.Shapes.{ends, at_first}
 use Rattle.line_rate_waits.proofs.OneRoundFamily.{downs, length-downs, starts_more}
-use Rattle.line_rate_waits.proofs.FirmFamily.{hands}
-use Rattle.line_rate_waits.proofs.FirmMoreSlots.{firm_in, IsSwitch-after_firm_in, IsFirmLateIn, firm_many_step_of, late_first, late_second}
+use Rattle.line_rate_waits.proofs.FirmSlots.{firm_decided, IsSwitch-after_firm, IsFirmLate, firm_step_of, late_first, late_second}
+use Rattle.line_rate_waits.proofs.FirmTurns.{hands, IsTurn, late_lowers, firm_late_comes}
 use Rattle.line_rate_waits.proofs.FirmMoreShapes.{joining, prepares, blocks, blocking, leaves_both, suits_prepares, suits_leaves, AreApartHere}
 use Rattle.line_rate_waits.proofs.FirmMoreShapes.{apart_twice, apart_one, suits_blocks, second_blocks, IsBlocking}
 use Rattle.line_rate_waits.proofs.FirmMoreFollowings.{hands_joining, joining_prepares, prepares_blocking, blocking_blocking, blocking_one}
 use Rattle.line_rate_waits.proofs.FirmMoreFollowings.{blocking_turns, blocking_turns_on, blocking_leaves, leaves_takes}
-use Rattle.line_rate_waits.proofs.FirmMoreFamily.{joinings, climbs, length-joinings, length-climbs, starts_joinings, starts_climbs, IsTurn}
-use Rattle.line_rate_waits.proofs.FirmMoreFamily.{late_joinings, late_climbs, late_lowers, firm_late_comes}
+use Rattle.line_rate_waits.proofs.FirmMoreFamily.{joinings, climbs, length-joinings, length-climbs, starts_joinings, starts_climbs}
+use Rattle.line_rate_waits.proofs.FirmMoreFamily.{late_joinings, late_climbs}
 
 -- k slots in which input l takes an output from a on, and input 2 the next one and refuses output l
 abbrev blockings : ℕ → ℕ → ℕ → List Plan → List Plan
@@ -87,13 +87,13 @@ module _ (rounds n l m : ℕ) (two : 1 < rounds) (more : 1 < m) (el : l ≡ m + 
   late_blocking : (a b c u v t : ℕ) (places : Places) (rest : List Plan) → AreApartHere n l a b c u v → IsLast n places l a → grant_of places c 0 ≡ 2
       → IsNearer n places b c → Starts (Follows (blocking l a b c u v)) rest
       → ((after : Places) → IsLast n after l (a + 1) → accept_of after 2 0 ≡ (b + 1) % n → grant_of after c 0 ≡ 2 → grant_of after v 0 ≡ (u + 1) % n
-      → IsFirmLateIn rounds n (t + 1) after rest) → IsFirmLateIn rounds n t places (blocking l a b c u v ∷ rest)
+      → IsFirmLate rounds n (t + 1) after rest) → IsFirmLate rounds n t places (blocking l a b c u v ∷ rest)
   late_blocking a b c u v t places rest apart last held near starts then =
       let it = blocks l a b c u v in
       let at : IsBlocking n places l a b c = record { grant = last.grant; accept = last.accept ∙ mod-eq_of_lt apart.a_in; held = held; near = near } in
       let suits = suits_blocks n places l a b c u v apart at in
-      let step = firm_many_step_of rounds n t places it some some_rounds last.switch suits in
-      let after = (firm_in rounds n t places it).places in
+      let step = firm_step_of rounds n t places it some some_rounds last.switch suits in
+      let after = (firm_decided rounds n t places it).places in
       let to_l : (w : ℕ) → distance n (grant_of places 0 0) l ≤ distance n (grant_of places 0 0) w = λ w. at_first n (grant_of places 0 0) l w
       apart.last_in last.grant in
       let to_c : (w : ℕ) → distance n (grant_of places c 0) 2 ≤ distance n (grant_of places c 0) w = λ w. at_first n (grant_of places c 0) 2 w
@@ -111,7 +111,7 @@ module _ (rounds n l m : ℕ) (two : 1 < rounds) (more : 1 < m) (el : l ≡ m + 
       let some_u = apart.some_u in
       let some_v = apart.some_v in
       let next : IsLast n after l (a + 1) = record {
-        switch = IsSwitch-after_firm_in rounds n t places it last.switch;
+        switch = IsSwitch-after_firm rounds n t places it last.switch;
         grant = step.held l 0 (omega arith, some, inr (inl (refl, refl))) of_zero (λ is. elim is [
           | inl s ↦ let e = s.1 in omega arith
           | inr later ↦ elim later [ inl s ↦ let e = s.1 in omega arith | inr third ↦ elim third [ inl s ↦ let e = s.1 in omega arith | inr none ↦ none ] ]
@@ -132,15 +132,17 @@ module _ (rounds n l m : ℕ) (two : 1 < rounds) (more : 1 < m) (el : l ≡ m + 
 
   -- input l goes down, and input 2 before it
   late_blockings : (rest : List Plan) → ((a : ℕ) → Starts (Follows (blocking l a (a + 1) l 2 (a + 1))) rest)
-      → ((t : ℕ) (places : Places) → IsLast n places l m → IsNearer n places (m + 1) l → grant_of places l 0 ≡ 2 → IsFirmLateIn rounds n t places rest)
+      → ((t : ℕ) (places : Places) → IsLast n places l m → IsNearer n places (m + 1) l → grant_of places l 0 ≡ 2 → IsFirmLate rounds n t places rest)
       → (k a t : ℕ) (places : Places) → 0 < a → a + k ≡ m → IsLast n places l a → IsNearer n places (a + 1) l → grant_of places l 0 ≡ 2
-      → IsFirmLateIn rounds n t places (blockings l a k rest)
+      → IsFirmLate rounds n t places (blockings l a k rest)
   late_blockings rest starts then zero a t places some_a sum last near held =
       let e : a ≡ m = omega arith in
       then t places (subst (λ v. IsLast n places l v) e last) (subst (λ v. IsNearer n places (v + 1) l) e near) held
   late_blockings rest starts then (suc k) a t places some_a sum last near held =
-      late_blocking a (a + 1) l 2 (a + 1) t places (blockings l (a + 1) k rest) (apart_twice n l a (a + 1) l (omega arith) (omega arith) some_a (omega arith) (omega arith) (omega arith) (omega arith) (omega arith)
-      (λ e. omega arith) (λ e. omega arith) (λ e. omega arith)) last held near (follows k)
+      late_blocking a (a + 1) l 2 (a + 1) t places (blockings l (a + 1) k rest)
+      (apart_twice n l a (a + 1) l (omega arith) (omega arith) some_a (omega arith) (omega arith) (omega arith) (omega arith) (omega arith)
+      (λ e. omega arith) (λ e. omega arith) (λ e. omega arith))
+      last held near (follows k)
       (λ after next at held_on granted.
       late_blockings rest starts then k (a + 1) (t + 1) after (omega arith) (omega arith) next
       (at_first n (accept_of after 2 0) (a + 1 + 1) l (omega arith) (at ∙ mod-eq_of_lt (omega arith))) held_on) where
@@ -149,37 +151,42 @@ module _ (rounds n l m : ℕ) (two : 1 < rounds) (more : 1 < m) (el : l ≡ m + 
         follows (suc k) = blocking_blocking l a (a + 1) (a + 1) (a + 1 + 1) (omega arith)
 
   -- the slot in which input l takes output 0, and those after it
-  late_leaves : (t : ℕ) (places : Places) → IsLast n places l n → IsFirmLateIn rounds n t places (leaves_both l ∷ final n)
+  late_leaves : (t : ℕ) (places : Places) → IsLast n places l n → IsFirmLate rounds n t places (leaves_both l ∷ final n)
   late_leaves t places last =
       let it = leaves_both l in
       let suits = suits_leaves n places l (omega arith) (omega arith) last.grant in
-      let step = firm_many_step_of rounds n t places it some some_rounds last.switch suits in
-      let after = (firm_in rounds n t places it).places in
+      let step = firm_step_of rounds n t places it some some_rounds last.switch suits in
+      let after = (firm_decided rounds n t places it).places in
       let round : (l + 1) % n ≡ 0 = mod_once n (l + 1) (omega arith) (omega arith) ∙ omega arith in
       let stays : accept_of after 0 0 ≡ 1 = step.accept_stays 0
       (λ j is. elim is [ inl s ↦ let e = s.0 in omega arith | inr later ↦ elim later [ inl s ↦ let e = s.0 in omega arith | inr none ↦ none ] ])
       ∙ last.first in
       late_first rounds n t places it some some_rounds last.switch suits (final n) l 0 (inl (refl, refl)) (inr (omega arith, refl))
       (starts_more (Follows it) 0 (n - 1) 1 (ends 0 ∷ []) (omega arith) (leaves_takes l 1))
-      (late_lowers rounds n two (omega arith) (n - 1) 1 (t + 1) after (omega arith) (omega arith)
-      (IsSwitch-after_firm_in rounds n t places it last.switch) (step.granted l 0 (inl (refl, refl)) ∙ round) (stays ∙ sym (mod-eq_of_lt (omega arith))))
+      (late_lowers rounds n some_rounds (omega arith) (n - 1) 1 (t + 1) after (omega arith) (omega arith)
+      (IsSwitch-after_firm rounds n t places it last.switch) (step.granted l 0 (inl (refl, refl)) ∙ round) (stays ∙ sym (mod-eq_of_lt (omega arith))))
 
   -- input l takes the last output, while input 2 takes output 1 and refuses output 2
   late_third : (t : ℕ) (places : Places) → IsLast n places l l → accept_of places 2 0 ≡ 0 → grant_of places 2 0 ≡ 2
-      → IsFirmLateIn rounds n t places (blocking l l 1 2 2 1 ∷ leaves_both l ∷ final n)
+      → IsFirmLate rounds n t places (blocking l l 1 2 2 1 ∷ leaves_both l ∷ final n)
   late_third t places last at held =
       let near : distance n (accept_of places 2 0) 1 + 0 ≡ 1 = ap (λ f. distance n f 1 + 0) at ∙ distance-above n 0 1 some (omega arith) (omega arith) in
       let far : distance n (accept_of places 2 0) 2 + 0 ≡ 2 = ap (λ f. distance n f 2 + 0) at ∙ distance-above n 0 2 some (omega arith) (omega arith) in
-      late_blocking l 1 2 2 1 t places (leaves_both l ∷ final n) (apart_twice n l l 1 2 (omega arith) (omega arith) (omega arith) (omega arith) (omega arith) (omega arith) (omega arith) (omega arith)
-      (λ e. omega arith) (λ e. omega arith) (λ e. omega arith)) last held (omega arith) (blocking_leaves l l 1 2 1)
+      late_blocking l 1 2 2 1 t places (leaves_both l ∷ final n)
+      (apart_twice n l l 1 2 (omega arith) (omega arith) (omega arith) (omega arith) (omega arith) (omega arith) (omega arith) (omega arith)
+      (λ e. omega arith) (λ e. omega arith) (λ e. omega arith))
+      last held (omega arith) (blocking_leaves l l 1 2 1)
       (λ after next at held_on granted. let e : l + 1 ≡ n = omega arith in late_leaves (t + 1) after (subst (λ v. IsLast n after l v) e next))
 
   -- the same while input 2 takes output l and refuses output 1, and input 1 takes output 2
   late_closing_two : (t : ℕ) (places : Places) → IsLast n places l (m + 1) → accept_of places 2 0 ≡ l → grant_of places 1 0 ≡ 2
-      → IsFirmLateIn rounds n t places (blocking l (m + 1) l 1 1 2 ∷ blocking l l 1 2 2 1 ∷ leaves_both l ∷ final n)
+      → IsFirmLate rounds n t places (blocking l (m + 1) l 1 1 2 ∷ blocking l l 1 2 2 1 ∷ leaves_both l ∷ final n)
   late_closing_two t places last at held =
-      late_blocking (m + 1) l 1 1 2 t places (blocking l l 1 2 2 1 ∷ leaves_both l ∷ final n) (apart_one n l (m + 1) l 1 2 (omega arith) (omega arith) (omega arith) (omega arith) (omega arith) (omega arith) (omega arith) (omega arith) (omega arith) (omega arith)
-      (λ e. omega arith) (λ e. omega arith) (λ e. omega arith) (λ e. omega arith) (λ e. omega arith) (λ e. omega arith)) last held (at_first n (accept_of places 2 0) l 1 (omega arith) at) (blocking_turns_on l (m + 1) l 1 1 2 l 2 (omega arith))
+      late_blocking (m + 1) l 1 1 2 t places (blocking l l 1 2 2 1 ∷ leaves_both l ∷ final n)
+      (apart_one n l (m + 1) l 1 2 (omega arith) (omega arith) (omega arith) (omega arith) (omega arith) (omega arith) (omega arith)
+      (omega arith) (omega arith) (omega arith)
+      (λ e. omega arith) (λ e. omega arith) (λ e. omega arith) (λ e. omega arith) (λ e. omega arith) (λ e. omega arith))
+      last held (at_first n (accept_of places 2 0) l 1 (omega arith) at) (blocking_turns_on l (m + 1) l 1 1 2 l 2 (omega arith))
       (λ after next beyond held_on granted.
       let e : m + 1 + 1 ≡ l = omega arith in
       let round : (l + 1) % n ≡ 0 = mod_once n (l + 1) (omega arith) (omega arith) ∙ omega arith in
@@ -187,34 +194,39 @@ module _ (rounds n l m : ℕ) (two : 1 < rounds) (more : 1 < m) (el : l ≡ m + 
 
   -- the last three outputs
   late_closing : (t : ℕ) (places : Places) → IsLast n places l m → IsNearer n places (m + 1) l → grant_of places l 0 ≡ 2
-      → IsFirmLateIn rounds n t places (closing n l m)
+      → IsFirmLate rounds n t places (closing n l m)
   late_closing t places last near held =
-      late_blocking m (m + 1) l 1 1 t places (blocking l (m + 1) l 1 1 2 ∷ blocking l l 1 2 2 1 ∷ leaves_both l ∷ final n) (apart_one n l m (m + 1) l 1 (omega arith) (omega arith) (omega arith) (omega arith) (omega arith) (omega arith) (omega arith) (omega arith) (omega arith) (omega arith)
-      (λ e. omega arith) (λ e. omega arith) (λ e. omega arith) (λ e. omega arith) (λ e. omega arith) (λ e. omega arith)) last held near (blocking_turns l m (m + 1) (m + 1) 1 1 1 2 (omega arith))
+      late_blocking m (m + 1) l 1 1 t places (blocking l (m + 1) l 1 1 2 ∷ blocking l l 1 2 2 1 ∷ leaves_both l ∷ final n)
+      (apart_one n l m (m + 1) l 1 (omega arith) (omega arith) (omega arith) (omega arith) (omega arith) (omega arith) (omega arith)
+      (omega arith) (omega arith) (omega arith)
+      (λ e. omega arith) (λ e. omega arith) (λ e. omega arith) (λ e. omega arith) (λ e. omega arith) (λ e. omega arith))
+      last held near (blocking_turns l m (m + 1) (m + 1) 1 1 1 2 (omega arith))
       (λ after next beyond held_on granted.
       late_closing_two (t + 1) after next (beyond ∙ mod-eq_of_lt (omega arith) ∙ omega arith) (granted ∙ mod-eq_of_lt (omega arith)))
 
   -- the slots in which input l goes down, and those after them
   late_lasts : (t : ℕ) (places : Places) → IsLast n places l 1 → accept_of places 2 0 ≡ 1 → grant_of places l 0 ≡ 2
-      → IsFirmLateIn rounds n t places (blockings l 1 (m - 1) (closing n l m))
+      → IsFirmLate rounds n t places (blockings l 1 (m - 1) (closing n l m))
   late_lasts t places last at held =
-      let near : distance n (accept_of places 2 0) 2 + 1 ≡ 2 = ap (λ f. distance n f 2 + 1) at ∙ distance-above n 1 2 (omega arith) (omega arith) (omega arith) in
-      let far : distance n (accept_of places 2 0) l + 1 ≡ l = ap (λ f. distance n f l + 1) at ∙ distance-above n 1 l (omega arith) (omega arith) (omega arith) in
+      let near : distance n (accept_of places 2 0) 2 + 1 ≡ 2 = ap (λ f. distance n f 2 + 1) at ∙ distance-above n 1 2 (omega arith) (omega arith)
+      (omega arith) in
+      let far : distance n (accept_of places 2 0) l + 1 ≡ l = ap (λ f. distance n f l + 1) at ∙ distance-above n 1 l (omega arith) (omega arith)
+      (omega arith) in
       late_blockings (closing n l m) (λ a. blocking_one l a (a + 1) m (m + 1) 1 (omega arith)) late_closing (m - 1) 1 t places (omega arith) (omega arith)
       last (omega arith) held
 
   -- the slot in which input l - 1 takes output 0, and those after it
   late_prepares : (t : ℕ) (places : Places) → IsTurn n places (m + 1) n → grant_of places l 0 ≡ l
-      → IsFirmLateIn rounds n t places (prepares l (m + 1) ∷ blockings l 1 (m - 1) (closing n l m))
+      → IsFirmLate rounds n t places (prepares l (m + 1) ∷ blockings l 1 (m - 1) (closing n l m))
   late_prepares t places turn at =
       let it = prepares l (m + 1) in
       let suits = suits_prepares n places l (m + 1) (omega arith) (omega arith) (omega arith) turn.grant at in
-      let step = firm_many_step_of rounds n t places it some some_rounds turn.switch suits in
-      let after = (firm_in rounds n t places it).places in
+      let step = firm_step_of rounds n t places it some some_rounds turn.switch suits in
+      let after = (firm_decided rounds n t places it).places in
       let stays : (i : ℕ) → i < n → (i ≡ m + 1 → ⊥) → (i ≡ 1 → ⊥) → accept_of after i 0 ≡ 1 = λ i i_in other one. step.accept_stays i
       (λ j is. elim is [ inl s ↦ other s.0 | inr later ↦ elim later [ inl s ↦ one s.0 | inr none ↦ none ] ]) ∙ turn.others i i_in other in
       let next : IsLast n after l 1 = record {
-        switch = IsSwitch-after_firm_in rounds n t places it turn.switch;
+        switch = IsSwitch-after_firm rounds n t places it turn.switch;
         grant = step.granted (m + 1) 0 (inl (refl, refl)) ∙ mod-eq_of_lt (omega arith) ∙ omega arith;
         accept = stays l (omega arith) (λ e. omega arith) (λ e. omega arith) ∙ sym (mod-eq_of_lt (omega arith));
         first = stays 0 some (λ e. omega arith) (λ e. omega arith);
@@ -228,7 +240,7 @@ module _ (rounds n l m : ℕ) (two : 1 < rounds) (more : 1 < m) (el : l ≡ m + 
         starts_blockings (suc k) some_k = prepares_blocking l (m + 1) 1 2 (omega arith) (omega arith)
 
   -- all of the family
-  late_family : (t : ℕ) (places : Places) → IsTurn n places 1 1 → IsFirmLateIn rounds n t places (family n l m)
+  late_family : (t : ℕ) (places : Places) → IsTurn n places 1 1 → IsFirmLate rounds n t places (family n l m)
   late_family t places turn =
       let rest = blockings l 1 (m - 1) (closing n l m) in
       late_climbs rounds n two (omega arith) (m + 1) (joinings (m + 1) 1 (n - 1) (prepares l (m + 1) ∷ rest)) (omega arith)
@@ -252,6 +264,5 @@ firm_comes_in_more_rounds n rounds many size two =
     let rest = family n l m in
     let starts = starts_climbs (Follows (hands 0 1)) n m 1 (joinings (m + 1) 1 (n - 1) (prepares l (m + 1) ∷ blockings l 1 (m - 1) (closing n l m)))
     (omega arith) (hands_joining 0 1) (λ none. absurd (omega arith)) in
-    let found = firm_late_comes rounds n (omega arith) (omega arith) rest starts size
-    (λ t places turn. late_family rounds n l m two (omega arith) (omega arith) (omega arith) t places turn) in
-    (found.0, found.1, found.2 ∙ length-family n l m (omega arith) (omega arith))
+    firm_late_comes rounds n (omega arith) (omega arith) rest starts size (λ v. v ≡ n * n) (length-family n l m (omega arith) (omega arith))
+    (λ t places turn. late_family rounds n l m two (omega arith) (omega arith) (omega arith) t places turn)

@@ -9,7 +9,7 @@ use Rattle.line_rate_waits.proofs.PlannedSlots.{Suits}
 use Rattle.line_rate_waits.proofs.SecondRounds.{IsSecond}
 use Rattle.line_rate_waits.proofs.Shapes.{at_first, zero_passed}
 use Rattle.line_rate_waits.proofs.MoreShapes.{joins_first}
-use Rattle.line_rate_waits.proofs.FirmMoreSlots.{also}
+use Rattle.line_rate_waits.proofs.FirmSlots.{also}
 
 -- input x takes output f, and output 0, which it refuses, serves the next input in the second round
 abbrev pub joining : ℕ → ℕ → Plan
@@ -175,6 +175,10 @@ pub record IsBlocking (n : ℕ) (places : Places) (l a b c : ℕ) : Type 0 where
   pub near : distance n (accept_of places 2 0) b ≤ distance n (accept_of places 2 0) c
 
 module _ (n : ℕ) (places : Places) (l a b c u v : ℕ) (apart : AreApartHere n l a b c u v) (at : IsBlocking n places l a b c) where
+  -- there is input 2
+  two_in : 2 < n
+  two_in = let high = apart.high in let last = apart.last_in in omega arith
+
   -- output 0 and input l
   to_last : (w : ℕ) → distance n (grant_of places 0 0) l ≤ distance n (grant_of places 0 0) w
   to_last w = at_first n (grant_of places 0 0) l w apart.last_in at.grant
@@ -200,7 +204,7 @@ module _ (n : ℕ) (places : Places) (l a b c u v : ℕ) (apart : AreApartHere n
     placed = (
       (apart.last_in, apart.a_in, inr (inr (inl (refl, refl)))),
       (
-        (let high = apart.high in let last = apart.last_in in omega arith, apart.b_in, inr (inr (inr (inl (refl, refl))))),
+        (two_in, apart.b_in, inr (inr (inr (inl (refl, refl))))),
         ((let u_in = apart.u_in in let last = apart.last_in in omega arith, apart.v_in, inr (inr (inr (inr (inr (inr (inl (refl, refl)))))))), tt),
       ),
     );
@@ -209,7 +213,13 @@ module _ (n : ℕ) (places : Places) (l a b c u v : ℕ) (apart : AreApartHere n
         λ e. absurd (let some = apart.some_a in omega arith),
         (
           λ e. omega arith,
-          (λ e. omega arith, (λ e. absurd (apart.a_b (sym e)), (λ e. absurd (apart.a_c (sym e)), (λ e. absurd (apart.a_c (sym e)), (λ e. absurd (apart.a_v (sym e)), tt))))),
+          (
+            λ e. omega arith,
+            (
+              λ e. absurd (apart.a_b (sym e)),
+              (λ e. absurd (apart.a_c (sym e)), (λ e. absurd (apart.a_c (sym e)), (λ e. absurd (apart.a_v (sym e)), tt))),
+            ),
+          ),
         ),
       ),
       (
@@ -245,7 +255,13 @@ module _ (n : ℕ) (places : Places) (l a b c u v : ℕ) (apart : AreApartHere n
       ),
     );
     taken = (
-      (λ e. inl (of_last 0), (λ e. inl (of_last 0), (λ e. inl (of_last a), (λ e. inl (of_last b), (λ e. inl (of_last c), (λ e. inl (of_last c), (λ e. inl (of_last v), tt))))))),
+      (
+        λ e. inl (of_last 0),
+        (
+          λ e. inl (of_last 0),
+          (λ e. inl (of_last a), (λ e. inl (of_last b), (λ e. inl (of_last c), (λ e. inl (of_last c), (λ e. inl (of_last v), tt))))),
+        ),
+      ),
       (
         (
           λ e. absurd (omega arith),
@@ -291,10 +307,9 @@ module _ (n : ℕ) (places : Places) (l a b c u v : ℕ) (apart : AreApartHere n
               (
                 inr (inr (
                   2,
-                  let high = apart.high in let last = apart.last_in in omega arith,
+                  two_in,
                   inr (inr (inr (inr (inl (refl, refl))))),
-                  nearer n (grant_of places c 0) 2 0 (let high = apart.high in let last = apart.last_in in omega arith) (let last = apart.last_in in omega arith)
-                      (λ e. omega arith) at.held,
+                  nearer n (grant_of places c 0) 2 0 two_in (omega (arith, two_in)) (λ e. omega arith) at.held,
                 )),
                 (inl (v, inr (inr (inl (refl, refl)))), tt),
               ),
@@ -348,5 +363,6 @@ module _ (n : ℕ) (places : Places) (l a b c u v : ℕ) (apart : AreApartHere n
         let some = apart.some_c in
         let inside = apart.c_in in
         let near : distance n (accept_of places 0 0) c + 1 ≡ c = ap (λ f. distance n f c + 1) first ∙ distance-above n 1 c (omega arith) inside some in
-        let far : distance n (accept_of places 0 0) 0 + 1 ≡ 0 + n = ap (λ f. distance n f 0 + 1) first ∙ distance-below n 1 0 (omega arith) (omega arith) (omega arith) in
+        let far : distance n (accept_of places 0 0) 0 + 1 ≡ 0 + n = ap (λ f. distance n f 0 + 1) first ∙ distance-below n 1 0 (omega arith) (omega arith)
+        (omega arith) in
         omega arith

@@ -6,9 +6,10 @@ pub mod Shapes
 pub mod Followings
 pub mod OneRoundFamily
 pub mod Openings
-pub mod FirmSlots
-pub mod FirmFamily
 pub mod SecondRounds
+pub mod FirmSlots
+pub mod FirmTurns
+pub mod FirmFamily
 pub mod ManySlots
 pub mod MoreShapes
 pub mod MoreFollowings
@@ -16,7 +17,6 @@ pub mod MoreRoundsFamily
 pub mod MoreLevels
 pub mod ThreePorts
 pub mod MoreOpenings
-pub mod FirmMoreSlots
 pub mod FirmMoreShapes
 pub mod FirmMoreFollowings
 pub mod FirmMoreFamily

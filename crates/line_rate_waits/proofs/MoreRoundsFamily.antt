@@ -229,7 +229,8 @@ module _ (rounds n l : ℕ) (two : 1 < rounds) (sum : l + 1 ≡ n) (high : 1 < l
       (ahead_next n from p x base.grant x_above next_in) (base.fresh x x_above (omega arith)) in
       let after_it = ahead n from p (x + 1) base.grant some_p (omega arith) next_in in
       let step = many_step_of rounds n t places it some base.switch suits some_rounds in
-      let second = served_second rounds n t places it some base.switch suits some_rounds two (x + 1) 0 (second_joins n places x f next_in some_f (omega arith)) in
+      let second = served_second rounds n t places it some base.switch suits some_rounds two (x + 1) 0
+      (second_joins n places x f next_in some_f (omega arith)) in
       let after = (decided_in rounds n t places it).places in
       let matched = (decided_in rounds n t places it).matched in
       let serves : AreServed (joins x f) matched = λ i j is. elim is [

@@ -52,8 +52,8 @@ abbrev pub IsBefore : ℕ → Places → ℕ → ℕ → Type 0
 IsBefore n places x z = distance n (grant_of places 0 0) x < distance n (grant_of places 0 0) z
 
 -- input x points at output y, which is not output l, and is before input 0
-pub suits_shares : (n : ℕ) (places : Places) (l x y : ℕ) → 0 < x → x < n → 0 < y → y < n → 0 < l → l < n → (y ≡ l → ⊥) → IsBefore n places x 0 → accept_of places x 0 ≡ y
-    → Suits n places (shares l x y)
+pub suits_shares : (n : ℕ) (places : Places) (l x y : ℕ) → 0 < x → x < n → 0 < y → y < n → 0 < l → l < n → (y ≡ l → ⊥) → IsBefore n places x 0
+    → accept_of places x 0 ≡ y → Suits n places (shares l x y)
 suits_shares n places l x y some_x x_in some_y y_in some_l l_in other before at = record {
   placed = ((x_in, y_in, inr (inr (inl (refl, refl)))), ((omega arith, l_in, inr (inr (inr (inl (refl, refl))))), tt));
   near = (

@@ -30,7 +30,7 @@ pub fn firm_is_reached_at_line_rate()
         → (slots : List DecidedSlot) × ComesLastByFirmAtLineRate n 1 (n + 1) slots × (length (drop (n + 1) slots) ≡ n * n) }
 {}
 
-/// With two rounds or more line rate costs nothing either, from five ports on; with fewer ports one slot.
+/// With two rounds or more it is so from five ports on. For two to four ports such slots are `n * n - 1` then.
 pub fn firm_is_reached_in_more_rounds()
     ensures square { (n rounds : ℕ) → 4 < n → n ≤ MAX_PORTS → 1 < rounds
         → (slots : List DecidedSlot) × ComesLastByFirmAtLineRate n rounds (n + 1) slots × (length (drop (n + 1) slots) ≡ n * n) }
