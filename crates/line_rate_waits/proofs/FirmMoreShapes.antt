@@ -4,8 +4,8 @@ use Rattle.std.proofs.lemmas.Bool.{cases_lt}
 use Rattle.rotating_pick.specs.Rotation.{distance}
 use Rattle.pointer_state.specs.Places.{Places, grant_of, accept_of}
 use Rattle.service_bound.proofs.Distances.{distance-above, distance-below, distance-own}
-use Rattle.line_rate_waits.proofs.Plans.{pair, Plan}
-use Rattle.line_rate_waits.proofs.PlannedSlots.{Suits}
+use Rattle.line_rate_waits.proofs.Plans.{pair, Each, Plan, asked}
+use Rattle.line_rate_waits.proofs.PlannedSlots.{Suits, IsPassed, AreNear, AreTaken, IsDone}
 use Rattle.line_rate_waits.proofs.SecondRounds.{IsSecond}
 use Rattle.line_rate_waits.proofs.Shapes.{at_first, zero_passed}
 use Rattle.line_rate_waits.proofs.MoreShapes.{joins_first}
@@ -199,125 +199,132 @@ module _ (n : ℕ) (places : Places) (l a b c u v : ℕ) (apart : AreApartHere n
   near_too e = subst (λ w. distance n (accept_of places w 0) v ≤ distance n (accept_of places w 0) c) e
       (let same = same_output e (accept_of places 2 0) in let near = at.near in omega arith)
 
+  -- each pair is granted: no input that asks the output is nearer
+  near_a : AreNear n places (blocks l a b c u v) l a
+  near_a = (
+    λ e. absurd (let some = apart.some_a in omega arith),
+    (
+      λ e. omega arith,
+      (
+        λ e. omega arith,
+        (
+          λ e. absurd (apart.a_b (sym e)),
+          (λ e. absurd (apart.a_c (sym e)), (λ e. absurd (apart.a_c (sym e)), (λ e. absurd (apart.a_v (sym e)), tt))),
+        ),
+      ),
+    ),
+  )
+
+  near_b : AreNear n places (blocks l a b c u v) 2 b
+  near_b = (
+    λ e. absurd (let some = apart.some_b in omega arith),
+    (
+      λ e. absurd (let some = apart.some_b in omega arith),
+      (
+        λ e. absurd (apart.a_b e),
+        (
+          λ e. omega arith,
+          (λ e. omega arith, (λ e. absurd (apart.b_c (sym e)), (λ e. let same = same_input (sym e) (grant_of places b 0) in omega arith, tt))),
+        ),
+      ),
+    ),
+  )
+
+  near_v : AreNear n places (blocks l a b c u v) u v
+  near_v = (
+    λ e. absurd (let some = apart.some_v in omega arith),
+    (
+      λ e. absurd (let some = apart.some_v in omega arith),
+      (
+        λ e. absurd (apart.a_v e),
+        (
+          λ e. let same = same_input e (grant_of places v 0) in omega arith,
+          (λ e. absurd (apart.c_v e), (λ e. absurd (apart.c_v e), (λ e. omega arith, tt))),
+        ),
+      ),
+    ),
+  )
+
+  -- and accepted: no output that grants the input is nearer
+  taken_a : AreTaken n places (blocks l a b c u v) l a
+  taken_a = (
+    λ e. inl (of_last 0),
+    (
+      λ e. inl (of_last 0),
+      (λ e. inl (of_last a), (λ e. inl (of_last b), (λ e. inl (of_last c), (λ e. inl (of_last c), (λ e. inl (of_last v), tt))))),
+    ),
+  )
+
+  taken_b : AreTaken n places (blocks l a b c u v) 2 b
+  taken_b = (
+    λ e. absurd (omega arith),
+    (
+      λ e. absurd (let high = apart.high in omega arith),
+      (
+        λ e. absurd (let high = apart.high in omega arith),
+        (
+          λ e. inl (omega arith),
+          (λ e. inl at.near, (λ e. absurd (omega arith), (λ e. inl (let same = same_output (sym e) (accept_of places 2 0) in omega arith), tt))),
+        ),
+      ),
+    ),
+  )
+
+  taken_v : AreTaken n places (blocks l a b c u v) u v
+  taken_v = (
+    λ e. absurd (let some = apart.some_u in omega arith),
+    (
+      λ e. absurd (let less = apart.u_in in omega arith),
+      (
+        λ e. absurd (let less = apart.u_in in omega arith),
+        (
+          λ e. inl (let same = same_output e (accept_of places u 0) in omega arith),
+          (λ e. inl (near_too e), (λ e. absurd (let some = apart.some_u in omega arith), (λ e. inl (omega arith), tt))),
+        ),
+      ),
+    ),
+  )
+
+  -- no other request is served
+  zero_is_passed : IsPassed n places (blocks l a b c u v) 0 0
+  zero_is_passed = zero_passed n places (blocks l a b c u v) l (let high = apart.high in omega arith) apart.last_in at.grant (inr (inl (refl, refl)))
+
+  refused_passed : IsPassed n places (blocks l a b c u v) 0 c
+  refused_passed = (
+    2,
+    two_in,
+    inr (inr (inr (inr (inl (refl, refl))))),
+    nearer n (grant_of places c 0) 2 0 two_in (omega (arith, two_in)) (λ e. omega arith) at.held,
+  )
+
+  done_all : Each (IsDone n places (blocks l a b c u v)) (asked (blocks l a b c u v))
+  done_all = (
+    inr (inr zero_is_passed),
+    (
+      inl (a, inl (refl, refl)),
+      (
+        inl (a, inl (refl, refl)),
+        (
+          inl (b, inr (inl (refl, refl))),
+          (inl (b, inr (inl (refl, refl))), (inr (inr refused_passed), (inl (v, inr (inr (inl (refl, refl)))), tt))),
+        ),
+      ),
+    ),
+  )
+
+  -- so the pointers suit the plan
   pub suits_blocks : Suits n places (blocks l a b c u v)
   suits_blocks = record {
     placed = (
       (apart.last_in, apart.a_in, inr (inr (inl (refl, refl)))),
       (
         (two_in, apart.b_in, inr (inr (inr (inl (refl, refl))))),
-        ((let u_in = apart.u_in in let last = apart.last_in in omega arith, apart.v_in, inr (inr (inr (inr (inr (inr (inl (refl, refl)))))))), tt),
+        ((let less = apart.u_in in let last = apart.last_in in omega arith, apart.v_in, inr (inr (inr (inr (inr (inr (inl (refl, refl)))))))), tt),
       ),
     );
-    near = (
-      (
-        λ e. absurd (let some = apart.some_a in omega arith),
-        (
-          λ e. omega arith,
-          (
-            λ e. omega arith,
-            (
-              λ e. absurd (apart.a_b (sym e)),
-              (λ e. absurd (apart.a_c (sym e)), (λ e. absurd (apart.a_c (sym e)), (λ e. absurd (apart.a_v (sym e)), tt))),
-            ),
-          ),
-        ),
-      ),
-      (
-        (
-          λ e. absurd (let some = apart.some_b in omega arith),
-          (
-            λ e. absurd (let some = apart.some_b in omega arith),
-            (
-              λ e. absurd (apart.a_b e),
-              (
-                λ e. omega arith,
-                (λ e. omega arith, (λ e. absurd (apart.b_c (sym e)), (λ e. let same = same_input (sym e) (grant_of places b 0) in omega arith, tt))),
-              ),
-            ),
-          ),
-        ),
-        (
-          (
-            λ e. absurd (let some = apart.some_v in omega arith),
-            (
-              λ e. absurd (let some = apart.some_v in omega arith),
-              (
-                λ e. absurd (apart.a_v e),
-                (
-                  λ e. let same = same_input e (grant_of places v 0) in omega arith,
-                  (λ e. absurd (apart.c_v e), (λ e. absurd (apart.c_v e), (λ e. omega arith, tt))),
-                ),
-              ),
-            ),
-          ),
-          tt,
-        ),
-      ),
-    );
-    taken = (
-      (
-        λ e. inl (of_last 0),
-        (
-          λ e. inl (of_last 0),
-          (λ e. inl (of_last a), (λ e. inl (of_last b), (λ e. inl (of_last c), (λ e. inl (of_last c), (λ e. inl (of_last v), tt))))),
-        ),
-      ),
-      (
-        (
-          λ e. absurd (omega arith),
-          (
-            λ e. absurd (let high = apart.high in omega arith),
-            (
-              λ e. absurd (let high = apart.high in omega arith),
-              (
-                λ e. inl (omega arith),
-                (λ e. inl at.near, (λ e. absurd (omega arith), (λ e. inl (let same = same_output (sym e) (accept_of places 2 0) in omega arith), tt))),
-              ),
-            ),
-          ),
-        ),
-        (
-          (
-            λ e. absurd (let some = apart.some_u in omega arith),
-            (
-              λ e. absurd (let less = apart.u_in in omega arith),
-              (
-                λ e. absurd (let less = apart.u_in in omega arith),
-                (
-                  λ e. inl (let same = same_output e (accept_of places u 0) in omega arith),
-                  (λ e. inl (near_too e), (λ e. absurd (let some = apart.some_u in omega arith), (λ e. inl (omega arith), tt))),
-                ),
-              ),
-            ),
-          ),
-          tt,
-        ),
-      ),
-    );
-    done = (
-      inr (inr (zero_passed n places (blocks l a b c u v) l (let high = apart.high in omega arith) apart.last_in at.grant (inr (inl (refl, refl))))),
-      (
-        inl (a, inl (refl, refl)),
-        (
-          inl (a, inl (refl, refl)),
-          (
-            inl (b, inr (inl (refl, refl))),
-            (
-              inl (b, inr (inl (refl, refl))),
-              (
-                inr (inr (
-                  2,
-                  two_in,
-                  inr (inr (inr (inr (inl (refl, refl))))),
-                  nearer n (grant_of places c 0) 2 0 two_in (omega (arith, two_in)) (λ e. omega arith) at.held,
-                )),
-                (inl (v, inr (inr (inl (refl, refl)))), tt),
-              ),
-            ),
-          ),
-        ),
-      ),
-    );
+    near = (near_a, (near_b, (near_v, tt)));
+    taken = (taken_a, (taken_b, (taken_v, tt)));
+    done = done_all;
   }
 
   -- and input 0, which points at output 1, is second
