@@ -35,7 +35,7 @@ use Rattle.line_rate_waits.proofs.ThreePorts.{three, late_three}
 use Rattle.line_rate_waits.proofs.MoreLevels.{late_takes, late_crosses}
 
 -- ---- how many slots these are
-length-sharings : (l x k y : ℕ) (rest : List Plan) → length (sharings l x y k rest) ≡ k + length rest
+pub length-sharings : (l x k y : ℕ) (rest : List Plan) → length (sharings l x y k rest) ≡ k + length rest
 length-sharings l x zero y rest = omega arith
 length-sharings l x (suc k) y rest = let e = length-sharings l x k (y + 1) rest in omega arith
 

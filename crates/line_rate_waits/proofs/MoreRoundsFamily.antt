@@ -165,7 +165,7 @@ module _ (rounds n l : ℕ) (two : 1 < rounds) (sum : l + 1 ≡ n) (high : 1 < l
       → IsLateIn rounds n t places (shares l x y ∷ rest)
   late_shares p low above b x y t places rest some_p x_above x_in some_low outside some_y y_in base at starts then =
       let it = shares l x y in
-      let suits = suits_shares n places l x y (omega arith) x_in some_y y_in (omega arith)
+      let suits = suits_shares n places l x y (omega arith) x_in some_y (omega arith) (omega arith) (omega arith) (λ e. omega arith)
       (ahead n (grant_of places 0 0) p x base.grant some_p x_above x_in) at in
       let step = many_step_of rounds n t places it some base.switch suits some_rounds in
       let after = (decided_in rounds n t places it).places in
@@ -238,7 +238,8 @@ module _ (rounds n l : ℕ) (two : 1 < rounds) (sum : l + 1 ≡ n) (high : 1 < l
       (ahead_next n from p x base.grant x_above next_in) (base.fresh x x_above (omega arith)) in
       let after_it = ahead n from p (x + 1) base.grant some_p (omega arith) next_in in
       let step = many_step_of rounds n t places it some base.switch suits some_rounds in
-      let second = served_second rounds n t places it some base.switch suits some_rounds (x + 1) (second_joins n places x f next_in some_f (omega arith)) two in
+      let second = served_second rounds n t places it some base.switch suits some_rounds two (x + 1) 0
+      (second_joins n places x f next_in some_f (omega arith)) in
       let after = (decided_in rounds n t places it).places in
       let matched = (decided_in rounds n t places it).matched in
       let serves : (i j : ℕ) → In i j (joins x f).serves → Serves matched i j 0 Uni = λ i j is. elim is [

@@ -4,7 +4,7 @@ use Rattle.rotating_pick.specs.Rotation.{distance}
 use Rattle.pointer_state.specs.Places.{Places, grant_of, accept_of}
 use Rattle.line_rate_waits.proofs.Plans.{pair, Plan}
 use Rattle.line_rate_waits.proofs.PlannedSlots.{Suits}
-use Rattle.line_rate_waits.proofs.ManySlots.{IsSecond}
+use Rattle.line_rate_waits.proofs.SecondRounds.{IsSecond}
 use Rattle.line_rate_waits.proofs.Shapes.{at_first}
 
 -- input x takes output y, and input 0 the last output
@@ -43,21 +43,21 @@ crosses_by y w = record { asks = pair 0 y ∷ pair w 1 ∷ pair w 2 ∷ []; serv
 abbrev pub IsBefore : ℕ → Places → ℕ → ℕ → Type 0
 IsBefore n places x z = distance n (grant_of places 0 0) x < distance n (grant_of places 0 0) z
 
--- input x points at output y, and is before input 0
-pub suits_shares : (n : ℕ) (places : Places) (l x y : ℕ) → 0 < x → x < n → 0 < y → y < l → l < n → IsBefore n places x 0 → accept_of places x 0 ≡ y
-    → Suits n places (shares l x y)
-suits_shares n places l x y some_x x_in some_y y_in l_in before at = record {
-  placed = ((x_in, omega arith, inr (inr (inl (refl, refl)))), ((omega arith, l_in, inr (inr (inr (inl (refl, refl))))), tt));
+-- input x points at output y, which is not output l, and is before input 0
+pub suits_shares : (n : ℕ) (places : Places) (l x y : ℕ) → 0 < x → x < n → 0 < y → y < n → 0 < l → l < n → (y ≡ l → ⊥) → IsBefore n places x 0
+    → accept_of places x 0 ≡ y → Suits n places (shares l x y)
+suits_shares n places l x y some_x x_in some_y y_in some_l l_in other before at = record {
+  placed = ((x_in, y_in, inr (inr (inl (refl, refl)))), ((omega arith, l_in, inr (inr (inr (inl (refl, refl))))), tt));
   near = (
     (λ e. absurd (omega arith), (λ e. absurd (omega arith), (λ e. omega arith, (λ e. absurd (omega arith), tt)))),
-    ((λ e. absurd (omega arith), (λ e. absurd (omega arith), (λ e. absurd (omega arith), (λ e. omega arith, tt)))), tt),
+    ((λ e. absurd (omega arith), (λ e. absurd (omega arith), (λ e. absurd (other e), (λ e. omega arith, tt)))), tt),
   );
   taken = (
     (
-      λ e. inl (at_first n (accept_of places x 0) y 0 (omega arith) at),
+      λ e. inl (at_first n (accept_of places x 0) y 0 y_in at),
       (
-        λ e. inl (at_first n (accept_of places x 0) y 0 (omega arith) at),
-        (λ e. inl (omega arith), (λ e. inl (at_first n (accept_of places x 0) y l (omega arith) at), tt)),
+        λ e. inl (at_first n (accept_of places x 0) y 0 y_in at),
+        (λ e. inl (omega arith), (λ e. inl (at_first n (accept_of places x 0) y l y_in at), tt)),
       ),
     ),
     ((λ e. inr (x, x_in, inr (inl (refl, refl)), before), (λ e. absurd (omega arith), (λ e. absurd (omega arith), (λ e. inl (omega arith), tt)))), tt),
@@ -120,14 +120,15 @@ suits_joins n places x f x_in some_f f_in before after at = record {
 
 -- and the next input is second
 pub second_joins : (n : ℕ) (places : Places) (x f : ℕ) → x + 1 < n → 0 < f
-    → distance n (grant_of places 0 0) (x + 1) ≤ distance n (grant_of places 0 0) 0 → IsSecond n places (joins_first x f) (x + 1)
+    → distance n (grant_of places 0 0) (x + 1) ≤ distance n (grant_of places 0 0) 0 → IsSecond n places (joins_first x f) (x + 1) 0
 second_joins n places x f next_in some_f near = record {
   input_in = next_in;
+  output_in = omega arith;
   asks = inr (inr (inr (inl (refl, refl))));
   input_free = λ j is. elim is [ inl s ↦ let e = s.0 in omega arith | inr none ↦ none ];
   output_free = λ i is. elim is [ inl s ↦ let e = s.1 in omega arith | inr none ↦ none ];
   next = (λ e. inr near, (λ e. inl (f, inl (refl, refl)), (λ e. inl (f, inl (refl, refl)), (λ e. inr (omega arith), tt))));
-  lone = (λ e. refl, (λ e. refl, (λ e. absurd (omega arith), (λ e. refl, tt))));
+  at_hand = (λ e. absurd (omega arith), (λ e. absurd (omega arith), (λ e. absurd (omega arith), (λ e. omega arith, tt))));
 }
 
 -- input 0 points at output y

@@ -1,9 +1,10 @@
--- Settled: the plans of the family of more rounds leave nothing that a further round can serve.
+-- Settled: the plans of the families of more rounds leave nothing that a further round can serve.
 use Rattle.std.proofs.Common.{ℕ, ◌+◌, refl, inl, inr}
 use Rattle.line_rate_waits.proofs.Plans.{Each, asked}
-use Rattle.line_rate_waits.proofs.ManySlots.{IsSettled}
+use Rattle.line_rate_waits.proofs.SecondRounds.{IsSettled}
 use Rattle.line_rate_waits.proofs.Shapes.{takes, ends, again, passes, wins, both}
 use Rattle.line_rate_waits.proofs.MoreShapes.{shares, closes, joins, resets, readies, readies_too, crosses_by}
+use Rattle.line_rate_waits.proofs.FirmMoreShapes.{joining, prepares, blocking, leaves_both}
 
 -- input 0 takes output y
 pub settles_takes : (y : ℕ) → Each (IsSettled (takes 0 y)) (asked (takes 0 y))
@@ -80,3 +81,44 @@ settles_readies_too l w = (
     (inl (2, inr (inl (refl, refl))), (inr (1, inr (inl (refl, refl))), (inl (1, inr (inr (inl (refl, refl)))), tt))),
   ),
 )
+
+-- ---- under the second scheduler
+-- input x takes output f, and the next input output 0
+pub settles_joining : (x f : ℕ) → Each (IsSettled (joining x f)) (asked (joining x f))
+settles_joining x f = (
+  inr ((x + 1), inl (refl, refl)),
+  (inl (f, inr (inl (refl, refl))), (inl (f, inr (inl (refl, refl))), (inl (0, inl (refl, refl)), tt))),
+)
+
+-- input x takes output 0, and input 1 output l
+pub settles_prepares : (l x : ℕ) → Each (IsSettled (prepares l x)) (asked (prepares l x))
+settles_prepares l x = (
+  inr (x, inl (refl, refl)),
+  (
+    inl (0, inl (refl, refl)),
+    (inr (x, inl (refl, refl)), (inl (l, inr (inl (refl, refl))), (inr (1, inr (inl (refl, refl))), tt))),
+  ),
+)
+
+-- all inputs that ask are served
+pub settles_blocking : (l a b c u v : ℕ) → Each (IsSettled (blocking l a b c u v)) (asked (blocking l a b c u v))
+settles_blocking l a b c u v = (
+  inl (c, inl (refl, refl)),
+  (
+    inl (a, inr (inl (refl, refl))),
+    (
+      inl (a, inr (inl (refl, refl))),
+      (
+        inl (b, inr (inr (inl (refl, refl)))),
+        (
+          inl (b, inr (inr (inl (refl, refl)))),
+          (inl (c, inl (refl, refl)), (inl (v, inr (inr (inr (inl (refl, refl))))), tt)),
+        ),
+      ),
+    ),
+  ),
+)
+
+-- input l takes output 0, and input 2 output 2
+pub settles_leaves : (l : ℕ) → Each (IsSettled (leaves_both l)) (asked (leaves_both l))
+settles_leaves l = (inr (l, inl (refl, refl)), (inl (0, inl (refl, refl)), (inl (2, inr (inl (refl, refl))), tt)))

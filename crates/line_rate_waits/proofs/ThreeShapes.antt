@@ -5,7 +5,7 @@ use Rattle.pointer_state.specs.Places.{Places, grant_of, accept_of}
 use Rattle.line_rate_waits.proofs.Plans.{pair, Each, Plan, asked}
 use Rattle.line_rate_waits.proofs.PlannedSlots.{Suits}
 use Rattle.line_rate_waits.proofs.NextPlans.{Follows}
-use Rattle.line_rate_waits.proofs.ManySlots.{IsSettled}
+use Rattle.line_rate_waits.proofs.SecondRounds.{IsSettled}
 use Rattle.line_rate_waits.proofs.Shapes.{wins, at_first, zero_passed}
 use Rattle.line_rate_waits.proofs.MoreShapes.{closes, joins}
 

@@ -31,3 +31,13 @@ pub fn firm_is_reached_by_cells()
     ensures { (n : ℕ) → 1 < n → n ≤ MAX_PORTS
         → (slots : List DecidedSlot) × AreFedAtLineRate n slots × ComesLastByFirmAtLineRate n 1 (n + 1) slots × (length (drop (n + 1) slots) ≡ n * n) }
 {}
+
+/// With two rounds or more it is so from five ports on. For two to four ports such slots are `n * n - 1` then.
+pub fn firm_is_reached_in_more_rounds_by_cells()
+    ensures square { (n rounds : ℕ) → 4 < n → n ≤ MAX_PORTS → 1 < rounds
+        → (slots : List DecidedSlot) × AreFedAtLineRate n slots × ComesLastByFirmAtLineRate n rounds (n + 1) slots
+        × (length (drop (n + 1) slots) ≡ n * n) }
+    ensures one_less { (n rounds : ℕ) → 1 < n → n < 5 → 1 < rounds
+        → (slots : List DecidedSlot) × AreFedAtLineRate n slots × ComesLastByFirmAtLineRate n rounds (n + 1) slots
+        × (length (drop (n + 1) slots) + 1 ≡ n * n) }
+{}
