@@ -51,8 +51,9 @@ BAD_WORDS = [
     (["--kinds", "trace", "--trace", "/none"], "--trace: [Errno 2] No such file or directory: '/none'"),
     (["--kinds", "trace", "--trace", "/dev/null"], "--trace: "),
 ]
-# The programs, but for runs of two rounds, which fail while the file `broken` is there and are slow while `slow` is, and
-# without --alone while `old` is there. It takes that word and, for a run, the name of a scheduler, and keeps the words in `words`.
+# The programs, but for runs of two rounds, which fail while the file `broken` is there, are slow while `slow` is, and kill
+# their process group, so Snakemake with all its jobs, while `killed` is. Without --alone while `old` is there. It takes
+# that word and, for a run, the name of a scheduler, and keeps the words in `words`.
 SCRIPT = """\
 #!/bin/sh
 echo "$*" >>{folder}/words
@@ -64,6 +65,7 @@ simulate) program={simulate};;
 esac
 case " $* " in *" --rounds 2 "*)
     [ -e {folder}/broken ] && exit 9
+    [ -e {folder}/killed ] && kill -9 0
     [ -e {folder}/slow ] && sleep 200;;
 esac
 mkdir {folder}/busy 2>/dev/null || touch {folder}/overlap
@@ -264,6 +266,17 @@ class Sweeps(unittest.TestCase):
         status, told = run(*self.words, "--schedulers", "islip,ideal")
         self.assertEqual((status, times(first)), (0, kept), told)
         self.assertEqual(self.rows("points")[0]["scheduler"].tolist(), ["ideal", "islip", "islip"])
+
+    def test_killed_run_leaves_no_text(self):
+        """Another command makes its tables beside a run that was killed, and the same words make the run again."""
+        (self.room / "killed").touch()
+        status, told = run(*self.words)
+        self.assertEqual((status, told), (1, f"tools/sweep: Snakemake ended with status -9: {self.folder / 'snakemake.log'}\n"))
+        (self.room / "killed").unlink()
+        for words, rounds in ((["--rounds", "1"], [1]), ([], [1, 2])):
+            status, told = run(*self.words, *words)
+            self.assertEqual(status, 0, told)
+            self.assertEqual(self.rows()[0]["rounds"].tolist(), rounds)
 
     def wait_for(self, text):
         """Waits until Snakemake has told this."""
