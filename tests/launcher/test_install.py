@@ -107,7 +107,7 @@ class Install(Scene):
         self.assertEqual(told, "unrouted 0 of 8 packets\n")
         told = self.run_tool("split", "made/00.pcap", "parts", "10.1.0.0/24").splitlines()
         self.assertEqual(told[0], "port 0: 4 packets, 10.1.0.0/24: parts/00.pcap")
-        self.assertIn(f"{self.prefix}/lib/tiny_tera/tiny_tera' run parts/table.txt", told[-1])
+        self.assertIn(f"{self.prefix}/lib/tiny_tera/tiny_tera' run --ethernet E parts/table.txt", told[-1])
 
     def test_provenance(self):
         """What the installed tools make is of the version that was installed, also within a repository of the user's own."""
