@@ -101,7 +101,8 @@ module _ (scheduler : Scheduler) (plan : SwitchPlan) (slot : ℕ) (inputs : List
       (going-to (ports_of plan) (posts_under scheduler plan) slot (first - slot) going
       (λ s from until. comes (slice_get input.plan.packets input.next) refl next s (omega arith))) where
         comes : (packet : Option Planned) → slice_get input.plan.packets input.next ≡ packet
-            → option_map (λ (p : Planned). p.arrival) packet ≡ Some first → (s : ℕ) → s < first → is_done_at (ports_of plan) (posts_under scheduler plan) s ≡ false
+            → option_map (λ (p : Planned). p.arrival) packet ≡ Some first
+            → (s : ℕ) → s < first → is_done_at (ports_of plan) (posts_under scheduler plan) s ≡ false
         comes None there is s before = absurd (none-some first is)
         comes (Some packet) there is s before =
             let same = same_Some packet.arrival first is in

@@ -3,7 +3,7 @@ use Rattle.std.proofs.Common.{◌≡◌, ◌∙◌, ℕ, ◌+◌, ◌<◌, List,
 use Rattle.std.specs.Prelude.{slice_get}
 use Rattle.std.specs.Option.{option_map}
 use Rattle.std.proofs.lemmas.Bool.{cases_lt}
-use Rattle.std.proofs.lemmas.List.{length-map, map-set}
+use Rattle.std.proofs.lemmas.List.{length-map, map-set, set-get_or}
 use Rattle.std.proofs.lemmas.Option.{slice_get-get_or, slice_get-map, slice_get_within, get_or_from_slice_get, same_Some}
 use Rattle.std_lemmas.proofs.Lists.{get-set_same, get-set_other}
 use Rattle.slot_match.specs.declared.rows.Row.{Row}
@@ -26,19 +26,20 @@ module _ (plan : SwitchPlan) (inputs : List InputValue) (plans : map (λ input. 
   in-ports i input at = let inside = slice_get_within inputs i input at in let count = count-inputs in omega arith
 
 -- the rows of the inputs, of which one is taken and one is put
-pub row-at : (inputs : List InputValue) (rows : List Row) (k : ℕ) (d : InputValue) (e : Row) → rows ≡ map row_in inputs → k < length inputs
-    → get_or rows k e ≡ row_in (get_or inputs k d)
-row-at inputs rows k d e are inside =
-    get_or_from_slice_get rows k (row_in (get_or inputs k d)) e
-    (ap (λ rs. slice_get rs k) are ∙ (slice_get-map row_in inputs k ∙ ap (option_map row_in) (slice_get-get_or inputs k d inside)))
+module _ (inputs : List InputValue) (rows : List Row) (are : rows ≡ map row_in inputs) (k : ℕ) where
+  pub row-there : (d : InputValue) → k < length inputs → slice_get rows k ≡ Some (row_in (get_or inputs k d))
+  row-there d inside =
+      ap (λ rs. slice_get rs k) are ∙ (slice_get-map row_in inputs k ∙ ap (option_map row_in) (slice_get-get_or inputs k d inside))
 
-pub rows-set : (inputs : List InputValue) (rows : List Row) (k : ℕ) (input : InputValue) (row : Row) → rows ≡ map row_in inputs → row ≡ row_in input
-    → set rows k row ≡ map row_in (set inputs k input)
-rows-set inputs rows k input row are is =
-    ap (λ rs. set rs k row) are ∙ (ap (set (map row_in inputs) k) is ∙ sym (map-set row_in inputs k input))
+  pub row-at : (d : InputValue) (e : Row) → k < length inputs → get_or rows k e ≡ row_in (get_or inputs k d)
+  row-at d e inside = get_or_from_slice_get rows k (row_in (get_or inputs k d)) e (row-there d inside)
 
-pub count-rows : (inputs : List InputValue) (rows : List Row) → rows ≡ map row_in inputs → length rows ≡ length inputs
-count-rows inputs rows are = ap length are ∙ length-map inputs row_in
+  pub rows-set : (input : InputValue) → set rows k (row_in input) ≡ map row_in (set inputs k input)
+  rows-set input = ap (λ rs. set rs k (row_in input)) are ∙ sym (map-set row_in inputs k input)
+
+-- one that is put again changes nothing
+pub rows-same : (rows : List Row) (k : ℕ) (row : Row) → slice_get rows k ≡ Some row → rows ≡ set rows k row
+rows-same rows k row at = sym (set-get_or rows k row) ∙ ap (set rows k) (get_or_from_slice_get rows k row row at)
 
 -- what holds of each element up to a place
 pub each-more : {X : Type 0} (P : ℕ → X → Type 0) (k : ℕ) (xs : List X) (y : X) → k < length xs → ((i : ℕ) (x : X) → i < k → slice_get xs i ≡ Some x → P i x)

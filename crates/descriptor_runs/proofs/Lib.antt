@@ -2,7 +2,6 @@ pub mod ServedInputs
 pub mod InputPorts
 pub mod Letting
 pub mod Granting
-pub mod Deciding
 pub mod DecidedSlots
 pub mod Begun
 pub mod Records

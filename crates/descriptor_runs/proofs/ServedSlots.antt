@@ -15,12 +15,11 @@ use Rattle.descriptor_runs.specs.OutputSteps.{OutputValue}
 use Rattle.descriptor_runs.specs.SwitchSteps.{AreInputs, AreNames, AreParts, AreGranted, AreOutputs, IsDecided}
 
 module _ (scheduler : Scheduler) (plan : SwitchPlan) (t : ℕ) (switch : Switch) (is : IsDecided scheduler plan t switch) where
-  -- the inputs and rows were given so, with these parts, and are these when they are served
-  module _ (given : List InputValue) (lent : List Row) (same : given ≡ switch.inputs.items) (same_rows : lent ≡ switch.rows.items)
+  -- the inputs were given so, with these parts, and they and the rows are these when they are served
+  module _ (given : List InputValue) (same : given ≡ switch.inputs.items)
       (parts : List (Option Served)) (put : (i : ℕ) → i < length switch.matched → slice_index_or parts i None ≡ served_of switch.matched i)
       (inputs : List InputValue) (rows : List Row) (names : List (Option CellName)) (long : length inputs ≡ length given)
-      (rows_long : length rows ≡ length lent)
-      (took : AreInputs scheduler plan t true given → lent ≡ map row_in given → AreParts scheduler plan t parts
+      (took : AreInputs scheduler plan t true given → switch.columns ≡ map row_in given → AreParts scheduler plan t parts
       → AreInputs scheduler plan (t + 1) false inputs × (rows ≡ map row_in inputs) × AreGranted scheduler plan t names
       × AreNames scheduler plan (t + 1) names) where
     parts-are : AreParts scheduler plan t parts
@@ -30,19 +29,16 @@ module _ (scheduler : Scheduler) (plan : SwitchPlan) (t : ℕ) (switch : Switch)
 
     served : AreInputs scheduler plan (t + 1) false inputs × (rows ≡ map row_in inputs) × AreGranted scheduler plan t names
         × AreNames scheduler plan (t + 1) names
-    served = took (subst (AreInputs scheduler plan t true) (sym same) is.inputs) (same_rows ∙ (is.rows_are ∙ ap (map row_in) (sym same))) parts-are
+    served = took (subst (AreInputs scheduler plan t true) (sym same) is.inputs) (is.rows_are ∙ ap (map row_in) (sym same)) parts-are
 
     inputs-back : (with_items switch.inputs inputs).items ≡ inputs
     inputs-back = whole_back switch.inputs.len inputs switch.inputs.items switch.inputs.ok.0 (long ∙ ap length same)
 
-    rows-back : (with_items switch.rows rows).items ≡ rows
-    rows-back = whole_back switch.rows.len rows switch.rows.items switch.rows.ok.0 (rows_long ∙ ap length same_rows)
-
     pub inputs-served : AreInputs scheduler plan (t + 1) false (with_items switch.inputs inputs).items
     inputs-served = subst (AreInputs scheduler plan (t + 1) false) (sym inputs-back) served.0
 
-    pub rows-served : (with_items switch.rows rows).items ≡ map row_in (with_items switch.inputs inputs).items
-    rows-served = rows-back ∙ (served.1 ∙ ap (map row_in) (sym inputs-back))
+    pub rows-served : rows ≡ map row_in (with_items switch.inputs inputs).items
+    rows-served = served.1 ∙ ap (map row_in) (sym inputs-back)
 
     pub plans-served : (again : List InputValue) → again ≡ (with_items switch.inputs inputs).items
         → map (λ (input : InputValue). input.plan) again ≡ plan.cards

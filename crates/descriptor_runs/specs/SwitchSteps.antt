@@ -77,7 +77,7 @@ pub record IsSwitch (scheduler : Scheduler) (plan : SwitchPlan) (t : ℕ) (switc
 pub record IsBefore (scheduler : Scheduler) (plan : SwitchPlan) (t : ℕ) (switch : Switch) : Type 0 where
   pub switch_is : IsSwitch scheduler plan t switch
   pub inputs : AreInputs scheduler plan t false switch.inputs.items
-  pub rows : switch.rows.items ≡ map row_in switch.inputs.items
+  pub rows : switch.columns ≡ map row_in switch.inputs.items
   pub names : AreNames scheduler plan t switch.names
   pub outputs : AreOutputs scheduler plan (t + 1) switch.outputs.items
 
@@ -85,8 +85,8 @@ pub record IsBefore (scheduler : Scheduler) (plan : SwitchPlan) (t : ℕ) (switc
 pub record IsDecided (scheduler : Scheduler) (plan : SwitchPlan) (t : ℕ) (switch : Switch) : Type 0 where
   pub switch_is : IsSwitch scheduler plan (t + 1) switch
   pub inputs : AreInputs scheduler plan t true switch.inputs.items
-  pub rows_are : switch.rows.items ≡ map row_in switch.inputs.items
-  pub rows : switch.rows.items ≡ rows_in plan (before_under scheduler plan t) t
+  pub rows_are : switch.columns ≡ map row_in switch.inputs.items
+  pub rows : switch.columns ≡ rows_in plan (before_under scheduler plan t) t
   pub names : AreNames scheduler plan t switch.names
   pub outputs : AreOutputs scheduler plan (t + 1) switch.outputs.items
   pub matched : switch.matched ≡ (decision_under scheduler (setup_for plan) (posts_under scheduler plan) t).matched

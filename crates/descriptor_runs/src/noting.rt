@@ -29,10 +29,11 @@ pub(crate) fn put_posts(
     names: &[Option<CellName>; PORT_COUNT],
 )
     requires { (scheduler : Scheduler) × (plan : SwitchPlan) × (slot : ℕ) × IsScheduler scheduler × IsGood plan
-        × AreInputs scheduler plan slot true inputs.now × (rows.now ≡ map row_in inputs.now) × AreNames scheduler plan slot names.now × (length posts.old ≡ ports_of plan) }
+        × AreInputs scheduler plan slot true inputs.now × (rows.now ≡ map row_in inputs.now) × AreNames scheduler plan slot names.now
+        × (length posts.old ≡ ports_of plan) }
     ensures { (scheduler : Scheduler) (plan : SwitchPlan) (slot : ℕ) → IsScheduler scheduler → IsGood plan
-        → AreInputs scheduler plan slot true inputs.now → rows.now ≡ map row_in inputs.now → AreNames scheduler plan slot names.now → length posts.old ≡ ports_of plan
-        → posts.new ≡ map (λ i. posts_under scheduler plan i slot) (range_with_len 0 (ports_of plan)) }
+        → AreInputs scheduler plan slot true inputs.now → rows.now ≡ map row_in inputs.now → AreNames scheduler plan slot names.now
+        → length posts.old ≡ ports_of plan → posts.new ≡ map (λ i. posts_under scheduler plan i slot) (range_with_len 0 (ports_of plan)) }
 {
     for place in 0..posts.len() {
         posts[place] = post_of(&inputs[place], &rows[place], names[place]);

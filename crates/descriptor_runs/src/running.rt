@@ -113,7 +113,12 @@ impl Switch {
         if !sink.wants_slots() {
             return Ok(());
         }
-        put_posts(&mut self.posts, &self.inputs, &self.rows, &self.names);
+        put_posts(
+            &mut self.posts,
+            &self.inputs,
+            self.columns.rows(),
+            &self.names,
+        );
         sink.note(slot, &self.posts, &self.matched, self.numbers)
     }
 

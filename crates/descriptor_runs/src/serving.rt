@@ -1,4 +1,4 @@
-ghost use Rattle.std.specs.Prelude.{◌≡◌, ℕ, ◌+◌, ◌^◌, ◌<◌, ◌≤◌, List, [], ◌∷◌, ◌++◌, true, false, Option, map, length, OnOk};
+ghost use Rattle.std.specs.Prelude.{◌≡◌, ℕ, ◌+◌, ◌^◌, ◌<◌, ◌≤◌, List, [], ◌∷◌, ◌++◌, true, false, Option, Some, map, length, slice_get, slice_set, OnOk};
 ghost use Rattle.slot_match.specs.declared.matching.Served.{Served as APart};
 ghost use Rattle.card_core.specs.Plans.{IsGoodPlan};
 ghost use Rattle.card_core.specs.Posts.{IsServable};
@@ -13,45 +13,52 @@ ghost use Rattle.descriptor_runs.specs.SwitchSteps.{AreInputs, AreNames, AreOutp
 use crate::inputs::Input;
 use crate::outputs::Output;
 use cell_cutter::CellName;
+use eslip_rounds::Columns;
 use rotating_pick::{OutOfMemory, PORT_COUNT};
-use slot_match::{Match, Row, Served};
+use slot_match::{Match, Served};
 use slot_records::laws;
 
 /// Takes what each input is served off its queues, brings its row up to date, and puts the name of the cell that it is
 /// granted among the names.
 pub(crate) fn serve_inputs(
     inputs: &mut [Input],
-    rows: &mut [Row],
+    columns: &mut Columns,
     parts: &[Option<Served>; PORT_COUNT],
     names: &mut [Option<CellName>; PORT_COUNT],
 )
     requires { (scheduler : Scheduler) × (plan : SwitchPlan) × (slot : ℕ) × IsScheduler scheduler × IsGood plan
-        × AreInputs scheduler plan slot true inputs.old × (rows.old ≡ map row_in inputs.old) × AreParts scheduler plan slot parts.now }
+        × AreInputs scheduler plan slot true inputs.old × (columns.old ≡ map row_in inputs.old) × AreParts scheduler plan slot parts.now }
     ensures served { (scheduler : Scheduler) (plan : SwitchPlan) (slot : ℕ) → IsScheduler scheduler → IsGood plan
-        → AreInputs scheduler plan slot true inputs.old → rows.old ≡ map row_in inputs.old → AreParts scheduler plan slot parts.now
-        → AreInputs scheduler plan (slot + 1) false inputs.new × (rows.new ≡ map row_in inputs.new)
+        → AreInputs scheduler plan slot true inputs.old → columns.old ≡ map row_in inputs.old → AreParts scheduler plan slot parts.now
+        → AreInputs scheduler plan (slot + 1) false inputs.new × (columns.new ≡ map row_in inputs.new)
         × AreGranted scheduler plan slot names.new × AreNames scheduler plan (slot + 1) names.new }
 {
     for place in 0..inputs.len() {
-        names[place] = serve_input(&mut inputs[place], &mut rows[place], parts[place]);
+        names[place] = serve_input(&mut inputs[place], columns, place as u32, parts[place]);
     }
 }
 
-// Takes what the input is served, if it is, off its queue, and brings its row up to date. Answers the name of the cell that it is
-// granted.
-fn serve_input(input: &mut Input, row: &mut Row, part: Option<Served>) -> Option<CellName>
-    requires { (served : List (Option APart)) × HasServed input.old served true × IsServable (row_in input.old) part }
+// Takes what the input of this port is served, if it is, off its queue, and brings its row up to date. Answers the name of the cell
+// that it is granted.
+fn serve_input(
+    input: &mut Input,
+    columns: &mut Columns,
+    port: u32,
+    part: Option<Served>,
+) -> Option<CellName>
+    requires served { (served : List (Option APart)) × HasServed input.old served true × IsServable (row_in input.old) part }
+    requires row { slice_get columns.old port ≡ Some (row_in input.old) }
     ensures plan { input.new.plan ≡ input.old.plan }
     ensures left { (served : List (Option APart)) → HasServed input.old served true → IsServable (row_in input.old) part
         → HasServed input.new (served ++ part ∷ []) false }
-    ensures row { row.old ≡ row_in input.old → row.new ≡ row_in input.new }
+    ensures row { columns.new ≡ slice_set columns.old port (row_in input.new) }
     ensures name { (served : List (Option APart)) → HasServed input.old served true → IsServable (row_in input.old) part
         → result ≡ name_by input.old.plan served part }
 {
     match part {
         Some(part) => {
             let name = input.leave(part);
-            *row = input.row();
+            columns.change(port, &input.row());
             Some(name)
         }
         None => None,

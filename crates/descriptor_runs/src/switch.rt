@@ -1,4 +1,4 @@
-ghost use Rattle.std.specs.Prelude.{◌≡◌, ℕ, ◌+◌, ◌^◌, ◌<◌, List, [], Option, true, false, map, length, replicate, IfOk, OnOk, None, Some, slice_get};
+ghost use Rattle.std.specs.Prelude.{◌≡◌, ℕ, ◌+◌, ◌^◌, ◌<◌, List, [], Option, true, false, map, length, replicate, IfOk, OnOk, None, Some, slice_get, slice_set};
 ghost use Rattle.rotating_pick.specs.declared.limits.TheConstants.{MAX_PORTS};
 ghost use Rattle.pcap_records.specs.Output.{capture_text};
 ghost use Rattle.eslip_rounds.specs.Schedulers.{Scheduler, IsScheduler};
@@ -20,6 +20,7 @@ use crate::serving::{feed_outputs, serve_inputs};
 use card_core::CardPlan;
 use cell_cutter::CellName;
 use crossbar::Post;
+use eslip_rounds::Columns;
 use islip_rounds::RoundsUsed;
 use named_schedulers::NamedScheduler;
 use pcap_records::Link;
@@ -53,8 +54,8 @@ pub(crate) struct Switch {
     pub(crate) nano: bool,
     /// The inputs, by port.
     pub(crate) inputs: Vec<Input>,
-    /// The rows of their queues.
-    pub(crate) rows: Vec<Row>,
+    /// The rows of their queues, by columns.
+    pub(crate) columns: Columns,
     /// The outputs, by port.
     pub(crate) outputs: Vec<Output>,
     /// Where the next slot's choices begin.
@@ -92,14 +93,13 @@ impl Switch {
             more: false,
         };
         let posts = vec![in alloc; nothing; ports as usize]?;
-        let rows = vec![in alloc; Row::empty(); ports as usize]?;
         let outputs = outputs_of(alloc, plan.nano, plan.link, &plan.cards)?;
         Ok(Switch {
             scheduler: NamedScheduler::new(scheduler),
             rounds: plan.rounds,
             nano: plan.nano,
             inputs: inputs_of(alloc, plan.cards)?,
-            rows,
+            columns: Columns::new(ports),
             outputs,
             pointers: Pointers::new(ports),
             matched: Match::new(ports),
@@ -121,16 +121,16 @@ impl Switch {
             → IsActivity scheduler plan slot result }
     {
         let ports = self.pointers.ports();
-        let activity = take_in(&mut self.inputs, &mut self.rows, slot);
-        self.numbers = self.scheduler.decide(
+        let activity = take_in(&mut self.inputs, &mut self.columns, slot);
+        self.numbers = self.scheduler.decide_over(
             ports,
             self.rounds,
             slot,
-            &self.rows,
+            &self.columns,
             &mut self.pointers,
             &mut self.matched,
         );
-        self.meter.note(&self.rows, &self.matched);
+        self.meter.note(self.columns.rows(), &self.matched);
         activity
     }
 
@@ -145,7 +145,7 @@ impl Switch {
         self.matched.put_parts(&mut self.parts);
         serve_inputs(
             &mut self.inputs,
-            &mut self.rows,
+            &mut self.columns,
             &self.parts,
             &mut self.names,
         );
@@ -160,34 +160,35 @@ impl Switch {
 }
 
 // Lets in the packets of the slot, and brings the rows of the queues that they enter up to date. Answers what goes on.
-fn take_in(inputs: &mut [Input], rows: &mut [Row], slot: u32) -> Activity
+fn take_in(inputs: &mut [Input], columns: &mut Columns, slot: u32) -> Activity
     requires { (scheduler : Scheduler) × (plan : SwitchPlan) × IsScheduler scheduler × IsGood plan × IsCountable plan × (slot < plan.max_slots)
-        × AreInputs scheduler plan slot false inputs.old × (rows.old ≡ map row_in inputs.old) }
+        × AreInputs scheduler plan slot false inputs.old × (columns.old ≡ map row_in inputs.old) }
     ensures inputs { (scheduler : Scheduler) (plan : SwitchPlan) → IsScheduler scheduler → IsGood plan → AreInputs scheduler plan slot false inputs.old
-        → rows.old ≡ map row_in inputs.old
-        → AreInputs scheduler plan slot true inputs.new × (rows.new ≡ map row_in inputs.new)
-        × (rows.new ≡ rows_in plan (before_under scheduler plan slot) slot) }
+        → columns.old ≡ map row_in inputs.old
+        → AreInputs scheduler plan slot true inputs.new × (columns.new ≡ map row_in inputs.new)
+        × (columns.new ≡ rows_in plan (before_under scheduler plan slot) slot) }
     ensures activity { (scheduler : Scheduler) (plan : SwitchPlan) → IsScheduler scheduler → IsGood plan → AreInputs scheduler plan slot false inputs.old
-        → rows.old ≡ map row_in inputs.old → IsActivity scheduler plan slot result }
+        → columns.old ≡ map row_in inputs.old → IsActivity scheduler plan slot result }
 {
     let mut activity = Activity::Done;
     for place in 0..inputs.len() {
-        let_in(&mut inputs[place], &mut rows[place], slot);
-        activity = activity.with(&rows[place], inputs[place].has_next());
+        let_in(&mut inputs[place], columns, place as u32, slot);
+        activity = activity.with(&columns.rows()[place], inputs[place].has_next());
     }
     activity
 }
 
-// Lets in the packet of the slot, if one arrives in it, and brings the row of the queues up to date.
-fn let_in(input: &mut Input, row: &mut Row, slot: u32)
-    requires { (served : List (Option APart)) × HasServed input.old served false × (slot ≡ length served) × (slot + 1 < 2 ^ 32) }
+// Lets in the packet of the slot, if one arrives in it at the input of this port, and brings the row of the queues up to date.
+fn let_in(input: &mut Input, columns: &mut Columns, port: u32, slot: u32)
+    requires served { (served : List (Option APart)) × HasServed input.old served false × (slot ≡ length served) × (slot + 1 < 2 ^ 32) }
+    requires row { slice_get columns.old port ≡ Some (row_in input.old) }
     ensures plan { input.new.plan ≡ input.old.plan }
     ensures arrived { (served : List (Option APart)) → HasServed input.old served false → slot ≡ length served → HasServed input.new served true }
-    ensures row { row.old ≡ row_in input.old → row.new ≡ row_in input.new }
+    ensures row { columns.new ≡ slice_set columns.old port (row_in input.new) }
 {
     if input.next_slot() == Some(slot) {
         input.arrive(slot);
-        *row = input.row();
+        columns.change(port, &input.row());
     }
 }
 

@@ -38,13 +38,12 @@ last_positive b [] some last = absurd (omega arith)
 last_positive b (step ∷ steps) some last = last 1 (omega arith)
 
 module _ (n t : ℕ) (rows : List Row) (places : Places) (first_kind : Kind) (first_is : first_kind ≡ preferred t) (asks : Asks)
-    (are : AreAsks n first_kind rows asks) where
+    (are : AreAsks n rows asks) where
   -- a step of the code is a round
   pub round_of : (before after : List (Option Fed)) → IsStep n first_kind asks places before after → length after ≡ n → IsRound n t rows places before after
   round_of before after step count =
-      let P : Kind → Type 0 = λ k. AreAsks n k rows asks in
-      let Q : Kind → Type 0 = λ k. IsStep n k asks places before after in
-      IsRound-from_step n t rows places asks before after (subst P first_is are) (subst Q first_is step) count
+      let P : Kind → Type 0 = λ k. IsStep n k asks places before after in
+      IsRound-from_step n t rows places asks before after are (subst P first_is step) count
 
   pub IsDecided-first : (made now : List (Option Fed)) (matched : ℕ) (numbers : RoundsUsed) (met : ℕ) → made ≡ unmatched n
       → IsStep n first_kind asks places made now → IsMatch n now → matched ≡ matched_count now → numbers ≡ numbers_of (matched ∷ []) → numbers.used ≤ 1

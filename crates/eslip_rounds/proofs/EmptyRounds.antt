@@ -30,7 +30,7 @@ module _ (n t : ℕ) (rows : List Row) (places : Places) where
         | inr same ↦ subst (λ m. IsRound n t rows places m now) same round
       ]
 
-  module _ (first_kind : Kind) (first_is : first_kind ≡ preferred t) (asks : Asks) (are : AreAsks n first_kind rows asks) where
+  module _ (first_kind : Kind) (first_is : first_kind ≡ preferred t) (asks : Asks) (are : AreAsks n rows asks) where
     -- after the first round
     pub IsSettled-first : (made now : List (Option Fed)) (added : ℕ) → AreAtPorts places → places.ports ≡ n → made ≡ unmatched n
         → IsStep n first_kind asks places made now → IsMatch n now → added ≡ matched_count now → IsSettled n t rows places now added

@@ -8,7 +8,9 @@ pub mod Meeting
 pub mod Running
 pub mod Deciding
 pub mod FirstRounds
-pub mod Columns
+pub mod Filling
+pub mod Turning
+pub mod Keeping
 pub mod Matching
 pub mod Enough
 pub mod Decided

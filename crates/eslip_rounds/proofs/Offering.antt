@@ -3,6 +3,7 @@ use Rattle.std.proofs.Common.{◌≡◌, ℕ, ◌<◌, ◌≤◌, ◌↔◌, ◌
 use Rattle.std.proofs.lemmas.Bool.{cases_eq, cases_lt}
 use Rattle.rotating_pick.specs.PortSets.{Has}
 use Rattle.rotating_pick.specs.declared.kinds.Kind.{Kind}
+use Rattle.slot_match.specs.declared.rows.Row.{Row}
 use Rattle.slot_match.specs.declared.matching.Fed.{Fed}
 use Rattle.slot_match.specs.Matches.{IsFreeOutput}
 use Rattle.slot_match.proofs.Sets.{Has-or}
@@ -10,9 +11,10 @@ use Rattle.pointer_state.specs.Places.{Places, AreAtPorts}
 use Rattle.eslip_rounds.specs.declared.asks.Asks.{Asks}
 use Rattle.eslip_rounds.specs.declared.grants.Choice.{Choice}
 use Rattle.eslip_rounds.specs.declared.grants.Offers.{Offers}
-use Rattle.eslip_rounds.specs.RankSteps.{level_at, kind_at}
-use Rattle.eslip_rounds.specs.Steps.{column_of, AreReady, IsChosen, AreOffers, IsOffered, AreOpen}
-use Rattle.eslip_rounds.proofs.RankLemmas.{level_at-lt}
+use Rattle.eslip_rounds.specs.declared.grants.Ready.{Ready}
+use Rattle.eslip_rounds.specs.RankSteps.{level_at, kind_at, set_at}
+use Rattle.eslip_rounds.specs.Steps.{AreAsks, IsNamed, AreNamed, AreReady, KeepsToPorts, IsChosen, AreOffers, IsOffered, AreOpen}
+use Rattle.eslip_rounds.proofs.RankLemmas.{level_at-lt, set_at-lt}
 use Rattle.eslip_rounds.proofs.Choosing.{IsChosen-only, from_of-lt}
 
 pub AreOffers-along : (P Q : ℕ → ℕ → ℕ → Type 0) (offers : Offers) → ((i j rank : ℕ) → P i j rank ↔ Q i j rank) → AreOffers P offers → AreOffers Q offers
@@ -140,23 +142,39 @@ module _ (P Q : ℕ → ℕ → ℕ → Type 0) (old new : Offers) (input output
         ];
       }
 
+-- the columns of rows name inputs only where the outputs are named
+pub AreNamed-asks : (n : ℕ) (rows : List Row) (asks : Asks) → AreAsks n rows asks → AreNamed n asks
+AreNamed-asks n rows asks are set i j set_in used j_in has =
+    let named = (are.columns set i j set_in used j_in).0 has in are.outputs set i j set_in named.0 named.1
+
+-- what is ready is of the switch
+pub KeepsToPorts-ready : (n : ℕ) (first_kind : Kind) (asks : Asks) (before : List (Option Fed)) (ready : Ready) → AreReady n first_kind asks before ready
+    → KeepsToPorts n ready
+KeepsToPorts-ready n first_kind asks before ready readies =
+    record { ranks = λ rank has. ((readies.ranks rank).0 has).0; inputs = λ rank i has may. ((readies.inputs rank i has).0 may).0 }
+
 -- the free outputs that any row names offer all that the free outputs offer
-pub AreOffers-asked : (n : ℕ) (first_kind : Kind) (asks : Asks) (ready : List ℕ) (places : Places) (before : List (Option Fed)) (free asked : ℕ)
-    (offers : Offers) → ((j : ℕ) → Has free j ↔ ((j < n) × IsFreeOutput before j)) → ((j : ℕ) → Has asked j ↔ (Has free j × Has asks.outputs j))
-    → ((rank i j : ℕ) → Has asks.ranks rank → j < n → Has (column_of asks.columns rank j) i → Has asks.outputs j)
+pub AreOffers-asked : (n : ℕ) (first_kind : Kind) (asks : Asks) (ready : Ready) (places : Places) (before : List (Option Fed)) (free asked : ℕ)
+    (offers : Offers) → ((j : ℕ) → Has free j ↔ ((j < n) × IsFreeOutput before j)) → ((j : ℕ) → Has asked j ↔ (Has free j × IsNamed asks j))
+    → AreReady n first_kind asks before ready → AreNamed n asks
     → AreOffers (λ i j rank. Has asked j × IsChosen n first_kind asks ready places j (record { rank = rank; input = i })) offers
     → AreOffers (λ i j rank. ((j < n) × IsFreeOutput before j) × IsChosen n first_kind asks ready places j (record { rank = rank; input = i })) offers
-AreOffers-asked n first_kind asks ready places before free asked offers frees both named =
+AreOffers-asked n first_kind asks ready places before free asked offers frees both readies named =
     AreOffers-along (λ i j rank. Has asked j × IsChosen n first_kind asks ready places j (record { rank = rank; input = i }))
     (λ i j rank. ((j < n) × IsFreeOutput before j) × IsChosen n first_kind asks ready places j (record { rank = rank; input = i })) offers
     (λ i j rank. (
       λ p. ((frees j).0 ((both j).0 p.0).0, p.1),
-      λ q. ((both j).1 ((frees j).1 q.0, named rank i j q.1.picked.member.0.0 q.0.0 q.1.picked.member.0.1), q.1),
+      λ q.
+          let set = set_at first_kind rank in
+          let member = q.1.picked.member in
+          let occurs = (readies.ranks rank).0 member.0.0 in
+          let set_in = set_at-lt first_kind rank occurs.0 in
+          ((both j).1 ((frees j).1 q.0, (set, set_in, named set i j set_in occurs.1 q.0.0 member.0.1)), q.1),
     ))
 
 -- what the free outputs offer may be taken
-pub AreOpen-from_offers : (n : ℕ) (first_kind : Kind) (asks : Asks) (ready : List ℕ) (places : Places) (before : List (Option Fed)) (offers : Offers)
-    → AreAtPorts places → places.ports ≡ n → AreReady n first_kind before ready
+pub AreOpen-from_offers : (n : ℕ) (first_kind : Kind) (asks : Asks) (ready : Ready) (places : Places) (before : List (Option Fed)) (offers : Offers)
+    → AreAtPorts places → places.ports ≡ n → AreReady n first_kind asks before ready
     → AreOffers (λ i j rank. ((j < n) × IsFreeOutput before j) × IsChosen n first_kind asks ready places j (record { rank = rank; input = i })) offers
     → AreOpen n first_kind before offers
 AreOpen-from_offers n first_kind asks ready places before offers at_ports ports readies o =
@@ -170,7 +188,7 @@ AreOpen-from_offers n first_kind asks ready places before offers at_ports ports 
             rank_in = c.rank_in;
             some = (s.0, (o.listed i s.0 has).1 s.1);
             free = λ j h. ((o.listed i j has).0 h).0;
-            ready = ((readies (slice_index offers.ranks i) i c.rank_in).0 c.picked.member.1).1;
+            ready = ((readies.inputs (slice_index offers.ranks i) i c.picked.member.0.0).0 c.picked.member.1).1;
           };
       apart = λ i k j i_has k_has a b.
           let p = (o.listed i j i_has).0 a in

@@ -1,11 +1,13 @@
 -- Ranks and back.
-use Rattle.std.proofs.Common.{◌≡◌, ℕ, ◌+◌, ◌*◌, ◌%◌, ◌<◌, ◌≤◌, ◌∙◌, refl, sym, subst, inl, inr, arith}
+use Rattle.std.proofs.Common.{◌≡◌, ℕ, ◌+◌, ◌*◌, ◌%◌, ◌<◌, ◌≤◌, ◌↔◌, ◌∙◌, refl, sym, subst, inl, inr, arith}
 use Rattle.std.proofs.lemmas.Bool.{cases_eq}
 use Rattle.rotating_pick.specs.declared.kinds.Kind.{Kind}
 use Rattle.rotating_pick.specs.declared.kinds.Kind.TheVariants.{Uni, Multi}
 use Rattle.rotating_pick.specs.declared.limits.TheConstants.{LEVELS}
-use Rattle.eslip_rounds.specs.declared.ranks.TheConstants.{RANKS}
-use Rattle.eslip_rounds.specs.RankSteps.{level_at, kind_at, rank_of}
+use Rattle.slot_match.specs.declared.rows.Row.{Row}
+use Rattle.slot_match.specs.Rows.{Names}
+use Rattle.eslip_rounds.specs.declared.ranks.TheConstants.{RANKS, SETS}
+use Rattle.eslip_rounds.specs.RankSteps.{level_at, kind_at, rank_of, set_at}
 use Rattle.eslip_rounds.specs.Rounds.{other_kind}
 
 -- the kind of an even rank, and of an odd one
@@ -63,3 +65,22 @@ rank_of-lt first_kind level kind level_in = let high = rank_of-high first_kind l
 
 pub level_at-lt : (rank : ℕ) → rank < RANKS → level_at rank < LEVELS
 level_at-lt rank rank_in = omega arith
+
+-- the set of a rank
+pub set_at-lt : (first_kind : Kind) (rank : ℕ) → rank < RANKS → set_at first_kind rank < SETS
+set_at-lt first_kind rank rank_in = rank_of-lt Uni (level_at rank) (kind_at first_kind rank) (level_at-lt rank rank_in)
+
+-- what a row names at a level with a kind it names in their set
+pub Names-rank_of : (row : Row) (level : ℕ) (kind : Kind) (j : ℕ)
+    → Names row level kind j ↔ Names row (level_at (rank_of Uni level kind)) (kind_at Uni (rank_of Uni level kind)) j
+Names-rank_of row level kind j =
+    let level_is = level_at-rank_of Uni level kind in
+    let kind_is = kind_at-rank_of Uni level kind in
+    let P : ℕ → Type 0 = λ l. Names row l kind j in
+    let Q : Kind → Type 0 = λ q. Names row (level_at (rank_of Uni level kind)) q j in
+    (λ h. subst Q (sym kind_is) (subst P (sym level_is) h), λ h. subst P level_is (subst Q kind_is h))
+
+-- what a row names at a rank it names in the rank's set
+pub Names-set : (row : Row) (first_kind : Kind) (rank j : ℕ)
+    → Names row (level_at rank) (kind_at first_kind rank) j ↔ Names row (level_at (set_at first_kind rank)) (kind_at Uni (set_at first_kind rank)) j
+Names-set row first_kind rank j = Names-rank_of row (level_at rank) (kind_at first_kind rank) j

@@ -1,11 +1,13 @@
 -- The refused grants that are told are those of the first round.
-use Rattle.std.proofs.Common.{◌≡◌, ℕ, ◌<◌, ◌↔◌, ◌∙◌, List, [], ◌∷◌, Option, None, Some, length, slice_index_or, refl, sym, ap, subst, inl, inr, arith}
+use Rattle.std.proofs.Common.{◌≡◌, ℕ, ◌<◌, ◌↔◌, ◌∙◌, List, [], ◌∷◌, Option, None, Some, length, slice_index, slice_index_or, refl, sym, ap, subst, inl, inr, arith}
 use Rattle.std.proofs.lemmas.Option.{none-some}
 use Rattle.rotating_pick.specs.PortSets.{Has}
 use Rattle.rotating_pick.specs.declared.kinds.Kind.{Kind}
 use Rattle.rotating_pick.specs.declared.kinds.Kind.TheVariants.{Uni, Multi}
+use Rattle.rotating_pick.specs.declared.limits.TheConstants.{LEVELS}
 use Rattle.slot_match.specs.declared.rows.Row.{Row}
 use Rattle.slot_match.specs.declared.matching.Fed.{Fed}
+use Rattle.slot_match.specs.Rows.{Names, row_of}
 use Rattle.slot_match.specs.Matches.{unmatched, fed_of, IsFreeOutput}
 use Rattle.slot_match.proofs.Kept.{fed_of-unmatched, nobody_at_first}
 use Rattle.slot_match.proofs.Pairs.{Serves-from}
@@ -17,16 +19,24 @@ use Rattle.eslip_rounds.specs.declared.rounds.Made.{Made}
 use Rattle.eslip_rounds.specs.RankSteps.{level_at, kind_at, rank_of}
 use Rattle.eslip_rounds.specs.Rounds.{preferred, from_of, Grants, Accepts, IsRound, AreRounds}
 use Rattle.eslip_rounds.specs.Slots.{IsRefused}
-use Rattle.eslip_rounds.specs.Steps.{AreAsks, GrantsUnicast, AreToldOf, AreMade}
-use Rattle.eslip_rounds.specs.Refusals.{AreRefused}
-use Rattle.eslip_rounds.proofs.RankLemmas.{kind_at-rank_of, level_at-rank_of}
+use Rattle.eslip_rounds.specs.Steps.{IsNamed, AreAsks, GrantsUnicast, AreToldOf, AreMade}
+use Rattle.eslip_rounds.specs.Refusals.{AreRefused, AreToldWithin}
+use Rattle.eslip_rounds.proofs.RankLemmas.{kind_at-rank_of, level_at-rank_of, rank_of-lt, Names-rank_of}
 use Rattle.eslip_rounds.proofs.Bests.{taken_from}
 use Rattle.eslip_rounds.proofs.Choosing.{from_of-lt, level_asked, IsChosen-only, Grants-from_chosen, chosen_from_grants}
 
+-- what some row names is named
+IsNamed-from : (n : ℕ) (rows : List Row) (asks : Asks) → AreAsks n rows asks → (i j level : ℕ) (kind : Kind) → i < n → level < LEVELS
+    → Names (row_of rows i) level kind j → IsNamed asks j
+IsNamed-from n rows asks are i j level kind i_in level_in named =
+    let set = rank_of Uni level kind in
+    let set_in = rank_of-lt Uni level kind level_in in
+    (set, set_in, are.outputs set i j set_in i_in ((Names-rank_of (row_of rows i) level kind j).0 named))
+
 module _ (n t : ℕ) (rows : List Row) (places : Places) (asks : Asks) (at_ports : AreAtPorts places) (ports : places.ports ≡ n)
-    (are : AreAsks n (preferred t) rows asks) (first_match : List (Option Fed)) (round : IsRound n t rows places (unmatched n) first_match)
+    (are : AreAsks n rows asks) (first_match : List (Option Fed)) (round : IsRound n t rows places (unmatched n) first_match)
     (first_outputs : ℕ) (firsts : (j : ℕ) → Has first_outputs j ↔ ((j < n) × (IsFreeOutput first_match j → ⊥))) (refused : Refused)
-    (are_told : AreToldOf n (preferred t) asks places (λ j. ((j < n) × (Has first_outputs j → ⊥)) × Has asks.outputs j) refused) where
+    (are_told : AreToldOf n (preferred t) asks places (λ j. ((j < n) × (Has first_outputs j → ⊥)) × IsNamed asks j) refused) where
   granted : (i j level : ℕ) → j < n → GrantsUnicast n (preferred t) asks are_told.ready places i j level → Grants n t rows places (unmatched n) i j level Uni
   granted i j level j_in chosen =
       let g = Grants-from_chosen n t rows asks are_told.ready (unmatched n) are are_told.readies j j_in places (fed_of-unmatched n j) chosen.0 i chosen.1 in
@@ -75,10 +85,10 @@ module _ (n t : ℕ) (rows : List Row) (places : Places) (asks : Asks) (at_ports
         ]
 
   -- and some row names it
-  asked : (i j level : ℕ) → Grants n t rows places (unmatched n) i j level Uni → Has asks.outputs j
+  asked : (i j level : ℕ) → Grants n t rows places (unmatched n) i j level Uni → IsNamed asks j
   asked i j level g = elim g.first.member [
-    | inl free ↦ are.outputs i j level Uni g.first.below free.1.named
-    | inr on ↦ are.outputs i j level Multi g.first.below on.named
+    | inl free ↦ IsNamed-from n rows asks are i j level Uni g.first.below free.1.level_in free.1.named
+    | inr on ↦ IsNamed-from n rows asks are i j level Multi g.first.below on.level_in on.named
   ]
 
   pub AreRefused-told : AreRefused n t rows places refused
@@ -110,12 +120,21 @@ first_round n t rows places (step ∷ steps) some chain = chain.0
 
 -- the same of the rounds of a slot
 pub AreRefused-from : (n t rounds : ℕ) (rows : List Row) (places : Places) (first_kind : Kind) (asks : Asks) → AreAtPorts places → places.ports ≡ n
-    → first_kind ≡ preferred t → AreAsks n first_kind rows asks → (matched : List (Option Fed)) (made : Made) → 0 < rounds
+    → first_kind ≡ preferred t → AreAsks n rows asks → (matched : List (Option Fed)) (made : Made) → 0 < rounds
     → AreMade n rounds t rows places matched made → (refused : Refused)
-    → AreToldOf n first_kind asks places (λ j. ((j < n) × (Has made.first_outputs j → ⊥)) × Has asks.outputs j) refused → AreRefused n t rows places refused
+    → AreToldOf n first_kind asks places (λ j. ((j < n) × (Has made.first_outputs j → ⊥)) × IsNamed asks j) refused → AreRefused n t rows places refused
 AreRefused-from n t rounds rows places first_kind asks at_ports ports first_is are matched made some are_made refused told =
-    let P : Kind → Type 0 = λ k. AreAsks n k rows asks in
-    let Q : Kind → Type 0 = λ k. AreToldOf n k asks places (λ j. ((j < n) × (Has made.first_outputs j → ⊥)) × Has asks.outputs j) refused in
+    let P : Kind → Type 0 = λ k. AreToldOf n k asks places (λ j. ((j < n) × (Has made.first_outputs j → ⊥)) × IsNamed asks j) refused in
     let count = are_made.count in
-    AreRefused-told n t rows places asks at_ports ports (subst P first_is are) (slice_index_or are_made.steps 0 (unmatched n))
-    (first_round n t rows places are_made.steps (omega arith) are_made.chain) made.first_outputs are_made.firsts refused (subst Q first_is told)
+    AreRefused-told n t rows places asks at_ports ports are (slice_index_or are_made.steps 0 (unmatched n))
+    (first_round n t rows places are_made.steps (omega arith) are_made.chain) made.first_outputs are_made.firsts refused (subst P first_is told)
+
+-- what is told of a slot is of its switch
+pub AreToldWithin-refused : (n t : ℕ) (rows : List Row) (places : Places) (refused : Refused) → AreRefused n t rows places refused → AreToldWithin n refused
+AreToldWithin-refused n t rows places refused are =
+    let of = λ (j : ℕ) (has : Has refused.outputs j). (are (slice_index refused.inputs j) j (slice_index refused.levels j)).0 (has, refl, refl) in
+    record {
+      outputs = λ j has. (of j has).0.output_in;
+      inputs = λ j has. (of j has).0.first.below;
+      levels = λ j has. level_asked rows (unmatched n) (slice_index refused.inputs j) j (slice_index refused.levels j) Uni (of j has).0.first.member;
+    }

@@ -14,7 +14,7 @@ use Rattle.eslip_rounds.proofs.RankLemmas.{kind_at-rank_of, level_at-rank_of, ra
 use Rattle.eslip_rounds.proofs.Bests.{IsBest-from_rank, IsBest-to_rank, Takes-along}
 use Rattle.eslip_rounds.proofs.Choosing.{Grants-from_chosen, chosen_from_grants}
 
-module _ (n t : ℕ) (rows : List Row) (places : Places) (asks : Asks) (before after : List (Option Fed)) (are : AreAsks n (preferred t) rows asks)
+module _ (n t : ℕ) (rows : List Row) (places : Places) (asks : Asks) (before after : List (Option Fed)) (are : AreAsks n rows asks)
     (step : IsStep n (preferred t) asks places before after) where
   -- output j offers input i at the rank
   abbrev Given : ℕ → ℕ → ℕ → Type 0

@@ -4,6 +4,8 @@ pub mod Schedules
 pub mod Schedulers
 pub mod RankSteps
 pub mod Steps
+pub mod ColumnSteps
 pub mod Refusals
 pub mod Decisions
+pub mod Calls
 pub mod OneLevel

@@ -18,3 +18,7 @@ rank_of Uni level Uni = 2 * level
 rank_of Uni level Multi = 2 * level + 1
 rank_of Multi level Multi = 2 * level
 rank_of Multi level Uni = 2 * level + 1
+
+-- the set of a level and kind is its rank where unicast is preferred: this is the set of a rank
+abbrev pub set_at : Kind → ℕ → ℕ
+set_at first_kind rank = rank_of Uni (level_at rank) (kind_at first_kind rank)

@@ -1,4 +1,4 @@
--- What the steps of a slot keep and answer: columns of asks by rank, choices, offers and takings.
+-- What the steps of a slot keep and answer: columns of asks, choices, offers and takings.
 use Rattle.std.specs.Prelude.{◌≡◌, ◌≢◌, ℕ, ◌+◌, ◌%◌, ◌<◌, ◌≤◌, ◌↔◌, ◌⊎◌, List, [], Option, Some, length, slice_index, slice_index_or}
 use Rattle.rotating_pick.specs.PortSets.{Has}
 use Rattle.rotating_pick.specs.Rotation.{IsFirstFrom}
@@ -10,48 +10,65 @@ use Rattle.slot_match.specs.Rows.{Names, row_of, HasHead}
 use Rattle.slot_match.specs.Matches.{unmatched, Serves, IsFreeInput, IsFreeOutput, IsMulticasting, Completes}
 use Rattle.pointer_state.specs.Places.{Places, grant_of, accept_of, shared_of}
 use Rattle.eslip_rounds.specs.declared.asks.Asks.{Asks}
-use Rattle.eslip_rounds.specs.declared.ranks.TheConstants.{RANKS}
+use Rattle.eslip_rounds.specs.declared.ranks.TheConstants.{RANKS, SETS}
 use Rattle.eslip_rounds.specs.declared.grants.Choice.{Choice}
 use Rattle.islip_rounds.specs.Numbers.{last_of, slot_numbers}
 use Rattle.eslip_rounds.specs.declared.grants.Offers.{Offers}
+use Rattle.eslip_rounds.specs.declared.grants.Ready.{Ready}
 use Rattle.eslip_rounds.specs.declared.refusals.Refused.{Refused}
 use Rattle.eslip_rounds.specs.declared.rounds.Made.{Made}
-use Rattle.eslip_rounds.specs.RankSteps.{level_at, kind_at}
+use Rattle.eslip_rounds.specs.RankSteps.{level_at, kind_at, set_at}
 use Rattle.eslip_rounds.specs.Rounds.{from_of, Takes, AreRounds}
 use Rattle.eslip_rounds.specs.Refusals.{Tells}
 
--- the column of output j at the rank
+-- the column of output j in the set
 abbrev pub column_of : List (List ℕ) → ℕ → ℕ → ℕ
-column_of columns rank j = slice_index (slice_index_or columns rank []) j
+column_of columns set j = slice_index (slice_index_or columns set []) j
 
--- at each rank that occurs, for each output the inputs whose rows name it there; the ranks at which any does, the
--- outputs that any names, and what all rows name as one row
-pub record AreAsks (n : ℕ) (first_kind : Kind) (rows : List Row) (asks : Asks) : Type 0 where
-  pub columns : (rank i j : ℕ) → Has asks.ranks rank → j < n → Has (column_of asks.columns rank j) i
-      ↔ ((i < n) × Names (row_of rows i) (level_at rank) (kind_at first_kind rank) j)
-  pub ranks : (rank i j : ℕ) → rank < RANKS → i < n → Names (row_of rows i) (level_at rank) (kind_at first_kind rank) j → Has asks.ranks rank
-  pub ranks_in : (rank : ℕ) → Has asks.ranks rank → rank < RANKS
-  pub outputs : (i j level : ℕ) (kind : Kind) → i < n → Names (row_of rows i) level kind j → Has asks.outputs j
-  pub named : (i j level : ℕ) (kind : Kind) → i < n → Names (row_of rows i) level kind j → Names asks.named level kind j
+-- in the set some row names an output
+abbrev pub IsUsed : Asks → ℕ → Type 0
+IsUsed asks set = slice_index asks.outputs set ≢ 0
+
+-- for each set the outputs that some row names there, and where there is one, for each output the inputs whose rows do
+pub record AreAsks (n : ℕ) (rows : List Row) (asks : Asks) : Type 0 where
+  pub columns : (set i j : ℕ) → set < SETS → IsUsed asks set → j < n → Has (column_of asks.columns set j) i
+      ↔ ((i < n) × Names (row_of rows i) (level_at set) (kind_at Uni set) j)
+  pub outputs : (set i j : ℕ) → set < SETS → i < n → Names (row_of rows i) (level_at set) (kind_at Uni set) j → Has (slice_index asks.outputs set) j
+  pub outputs_in : (set j : ℕ) → set < SETS → Has (slice_index asks.outputs set) j → j < n
+
+-- some row names output j, in whatever set
+abbrev pub IsNamed : Asks → ℕ → Type 0
+IsNamed asks j = (set : ℕ) × (set < SETS) × Has (slice_index asks.outputs set) j
+
+-- a column that is read names inputs only where its output is named
+abbrev pub AreNamed : ℕ → Asks → Type 0
+AreNamed n asks = (set i j : ℕ) → set < SETS → IsUsed asks set → j < n → Has (column_of asks.columns set j) i → Has (slice_index asks.outputs set) j
 
 -- the input may ask at the level with the kind: it is free, or goes on there
 abbrev pub MayAsk : List (Option Fed) → ℕ → Kind → ℕ → Type 0
 MayAsk before level kind i = IsFreeInput before i ⊎ ((kind ≡ Multi) × IsMulticasting before i level)
 
--- for each rank the inputs that may ask there
-abbrev pub AreReady : ℕ → Kind → List (Option Fed) → List ℕ → Type 0
-AreReady n first_kind before ready = (rank i : ℕ) → rank < RANKS → Has (slice_index ready rank) i
-    ↔ ((i < n) × MayAsk before (level_at rank) (kind_at first_kind rank) i)
+-- the ranks at which some row names an output, and for each of them the inputs that may ask there
+pub record AreReady (n : ℕ) (first_kind : Kind) (asks : Asks) (before : List (Option Fed)) (ready : Ready) : Type 0 where
+  pub ranks : (rank : ℕ) → Has ready.ranks rank ↔ ((rank < RANKS) × IsUsed asks (set_at first_kind rank))
+  pub inputs : (rank i : ℕ) → Has ready.ranks rank → Has (slice_index ready.inputs rank) i
+      ↔ ((i < n) × MayAsk before (level_at rank) (kind_at first_kind rank) i)
+
+-- these are ranks, and inputs of a switch of n ports
+pub record KeepsToPorts (n : ℕ) (ready : Ready) : Type 0 where
+  pub ranks : (rank : ℕ) → Has ready.ranks rank → rank < RANKS
+  pub inputs : (rank i : ℕ) → Has ready.ranks rank → Has (slice_index ready.inputs rank) i → i < n
 
 -- input i asks output j at the rank, by the columns: those of the ranks that occur
-abbrev pub AsksAt : Asks → List ℕ → ℕ → ℕ → ℕ → Type 0
-AsksAt asks ready j rank i = (Has asks.ranks rank × Has (column_of asks.columns rank j) i) × Has (slice_index ready rank) i
+abbrev pub AsksAt : Kind → Asks → Ready → ℕ → ℕ → ℕ → Type 0
+AsksAt first_kind asks ready j rank i =
+    (Has ready.ranks rank × Has (column_of asks.columns (set_at first_kind rank) j) i) × Has (slice_index ready.inputs rank) i
 
 -- output j's choice: the lowest rank at which it is asked, and there the first input from its pointer on
-pub record IsChosen (n : ℕ) (first_kind : Kind) (asks : Asks) (ready : List ℕ) (places : Places) (j : ℕ) (choice : Choice) : Type 0 where
+pub record IsChosen (n : ℕ) (first_kind : Kind) (asks : Asks) (ready : Ready) (places : Places) (j : ℕ) (choice : Choice) : Type 0 where
   pub rank_in : choice.rank < RANKS
-  pub picked : IsFirstFrom n (from_of places j (level_at choice.rank) (kind_at first_kind choice.rank)) (AsksAt asks ready j choice.rank) choice.input
-  pub best : (rank i : ℕ) → rank < choice.rank → AsksAt asks ready j rank i → ⊥
+  pub picked : IsFirstFrom n (from_of places j (level_at choice.rank) (kind_at first_kind choice.rank)) (AsksAt first_kind asks ready j choice.rank) choice.input
+  pub best : (rank i : ℕ) → rank < choice.rank → AsksAt first_kind asks ready j rank i → ⊥
 
 -- to each input that is granted, where output j grants input i at the rank with P, the outputs that
 -- grant it at its lowest rank
@@ -93,9 +110,9 @@ pub record IsTaken (n : ℕ) (first_kind : Kind) (places : Places) (offers : Off
 
 -- one round by the columns: the inputs that may ask, the offers of the free outputs, and what is taken
 pub record IsStep (n : ℕ) (first_kind : Kind) (asks : Asks) (places : Places) (before after : List (Option Fed)) : Type 0 where
-  pub ready : List ℕ
+  pub ready : Ready
   pub offers : Offers
-  pub readies : AreReady n first_kind before ready
+  pub readies : AreReady n first_kind asks before ready
   pub offered : AreOffers (λ i j rank. ((j < n) × IsFreeOutput before j) × IsChosen n first_kind asks ready places j (record { rank = rank; input = i })) offers
   pub pairs : (i j level : ℕ) (kind : Kind) → Serves after i j level kind ↔ (Serves before i j level kind ⊎ IsTaken n first_kind places offers i j level kind)
 
@@ -130,12 +147,12 @@ IsUnicastChoice first_kind choice i level = (rank : ℕ) × (choice ≡ Some (re
     × (level ≡ level_at rank)
 
 -- output j grants input i as unicast of the level
-abbrev pub GrantsUnicast : ℕ → Kind → Asks → List ℕ → Places → ℕ → ℕ → ℕ → Type 0
+abbrev pub GrantsUnicast : ℕ → Kind → Asks → Ready → Places → ℕ → ℕ → ℕ → Type 0
 GrantsUnicast n first_kind asks ready places i j level = (rank : ℕ) × IsChosen n first_kind asks ready places j (record { rank = rank; input = i })
     × (kind_at first_kind rank ≡ Uni) × (level ≡ level_at rank)
 
 -- of these outputs each that grants unicast, where nothing is matched yet, is told with what it grants
 pub record AreToldOf (n : ℕ) (first_kind : Kind) (asks : Asks) (places : Places) (Outputs : ℕ → Type 0) (refused : Refused) : Type 0 where
-  pub ready : List ℕ
-  pub readies : AreReady n first_kind (unmatched n) ready
+  pub ready : Ready
+  pub readies : AreReady n first_kind asks (unmatched n) ready
   pub told : (i j level : ℕ) → Tells refused i j level ↔ (Outputs j × GrantsUnicast n first_kind asks ready places i j level)

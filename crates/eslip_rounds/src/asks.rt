@@ -1,92 +1,92 @@
-ghost use Rattle.std.specs.Prelude.{◌≡◌, ℕ, ◌<◌, ◌≤◌, ◌↔◌, length, replicate, slice_index};
+ghost use Rattle.std.specs.Prelude.{◌≡◌, ◌≢◌, ℕ, ◌<◌, ◌≤◌, ◌↔◌, length, replicate, slice_index};
 ghost use Rattle.rotating_pick.specs.PortSets.{Has};
 ghost use Rattle.rotating_pick.specs.declared.kinds.Kind.{Kind};
+ghost use Rattle.rotating_pick.specs.declared.kinds.Kind.TheVariants.{Uni};
 ghost use Rattle.slot_match.specs.Rows.{Names, row_of, sets_of, AreWithin};
 ghost use Rattle.eslip_rounds.specs.RankSteps.{level_at, kind_at};
-ghost use Rattle.eslip_rounds.specs.Steps.{column_of, AreAsks};
+ghost use Rattle.eslip_rounds.specs.Steps.{column_of, AreAsks, IsNamed};
 
-use crate::ranks::{RANKS, kind_of, level_of};
+use crate::ranks::{SETS, kind_of, level_of};
 use islip_rounds::transpose;
-use rotating_pick::{Kind, LEVELS, MAX_PORTS, PORT_COUNT, Ports, is_empty, with};
+use rotating_pick::{Kind, LEVELS, MAX_PORTS, PORT_COUNT, Ports, is_empty, union};
 use slot_match::Row;
 
 /// What the rows of a slot ask, by columns.
 #[derive(Drop)]
 pub(crate) struct Asks {
-    /// For each rank of `ranks` and each of the outputs the inputs whose rows name it there. What other columns
-    /// hold is not read.
-    pub columns: [[Ports; PORT_COUNT]; RANKS],
-    /// The ranks at which some row names an output.
-    pub ranks: Ports,
-    /// The outputs that some row names.
-    pub outputs: Ports,
-    /// All rows joined.
-    pub named: Row,
-    /// What each row names at one rank, while that is turned into columns.
-    pub sets: [Ports; PORT_COUNT],
+    /// For each set and each of the outputs the inputs whose rows name it there. The columns of a set in which no row
+    /// names an output are not read.
+    pub columns: [[Ports; PORT_COUNT]; SETS],
+    /// For each set the outputs that some row names there.
+    pub outputs: [Ports; SETS],
 }
 
 impl Asks {
     /// What no row asks.
-    pub(crate) fn new() -> Asks {
+    pub(crate) fn new() -> Asks
+        ensures columns { result.columns ≡ replicate SETS (replicate MAX_PORTS 0) }
+        ensures outputs { result.outputs ≡ replicate SETS 0 }
+    {
         Asks {
-            columns: no_columns(),
-            ranks: 0,
-            outputs: 0,
-            named: Row::empty(),
-            sets: no_sets(),
+            columns: [[0; PORT_COUNT]; SETS],
+            outputs: [0; SETS],
         }
     }
 
-    /// Turns the rows into columns, once a slot: those of the ranks that occur. What an earlier slot left in
-    /// the others stays.
-    pub(crate) fn read(&mut self, n: u32, first_kind: Kind, rows: &[Row])
+    /// Turns the rows into columns: those of the sets in which some row names an output. What was in the others
+    /// stays. What `collected` holds is not read.
+    pub(crate) fn read(&mut self, n: u32, rows: &[Row], collected: &mut [Ports; PORT_COUNT])
         requires size { n ≤ MAX_PORTS }
         requires rows { AreWithin n rows.now }
-        ensures { AreAsks n first_kind rows.now self.new }
+        ensures { AreAsks n rows.now self.new }
     {
-        let named = joined(rows);
-        self.ranks = fill(
-            n,
-            first_kind,
-            rows,
-            &named,
-            &mut self.sets,
-            &mut self.columns,
-        );
-        self.outputs = named.named();
-        self.named = named;
+        self.outputs = named_by_set(&joined(rows));
+        fill(n, rows, &self.outputs, collected, &mut self.columns);
+    }
+
+    /// The outputs that some row names in whatever set.
+    pub(crate) fn named(&self) -> Ports
+        ensures { (j : ℕ) → Has result j ↔ IsNamed self.now j }
+    {
+        let mut named = 0;
+        for set in 0..SETS {
+            named = union(named, self.outputs[set]);
+        }
+        named
     }
 }
 
-// Fills the columns of the ranks at which `named`, the joined rows, names an output, and answers these
-// ranks.
+// Fills the columns of the sets in which some row names an output, by `outputs`.
 fn fill(
     n: u32,
-    first_kind: Kind,
     rows: &[Row],
-    named: &Row,
-    sets: &mut [Ports; PORT_COUNT],
-    columns: &mut [[Ports; PORT_COUNT]; RANKS],
-) -> Ports
+    outputs: &[Ports; SETS],
+    collected: &mut [Ports; PORT_COUNT],
+    columns: &mut [[Ports; PORT_COUNT]; SETS],
+)
     requires size { n ≤ MAX_PORTS }
     requires rows { AreWithin n rows.now }
-    requires named { (i j level : ℕ) (kind : Kind) → i < n → Names (row_of rows.now i) level kind j → Names named.now level kind j }
-    ensures columns { (rank i j : ℕ) → Has result rank → j < n → Has (column_of columns.new rank j) i
-        ↔ ((i < n) × Names (row_of rows.now i) (level_at rank) (kind_at first_kind rank) j) }
-    ensures ranks { (rank i j : ℕ) → rank < RANKS → i < n → Names (row_of rows.now i) (level_at rank) (kind_at first_kind rank) j → Has result rank }
-    ensures ranks_in { (rank : ℕ) → Has result rank → rank < RANKS }
+    ensures { (set i j : ℕ) → set < SETS → slice_index outputs.now set ≢ 0 → j < n → Has (column_of columns.new set j) i
+        ↔ ((i < n) × Names (row_of rows.now i) (level_at set) (kind_at Uni set) j) }
 {
-    let mut ranks = 0;
-    for rank in 0..RANKS as u32 {
-        let level = level_of(rank);
-        let kind = kind_of(first_kind, rank);
-        if !is_empty(named.outputs(level, kind)) {
-            gather(n, rows, level, kind, sets, &mut columns[rank as usize]);
-            ranks = with(ranks, rank);
+    for set in 0..SETS as u32 {
+        let at = set as usize;
+        if !is_empty(outputs[at]) {
+            let kind = kind_of(Kind::Uni, set);
+            gather(n, rows, level_of(set), kind, collected, &mut columns[at]);
         }
     }
-    ranks
+}
+
+// What the row names in each set.
+fn named_by_set(row: &Row) -> [Ports; SETS]
+    ensures { (set : ℕ) → set < SETS → slice_index result set ≡ slice_index (sets_of row.now (kind_at Uni set)) (level_at set) }
+{
+    let mut named = [0; SETS];
+    for set in 0..SETS as u32 {
+        named[set as usize] = row.outputs(level_of(set), kind_of(Kind::Uni, set));
+    }
+    named
 }
 
 // All that the rows name, as one row.
@@ -100,25 +100,13 @@ fn joined(rows: &[Row]) -> Row
     named
 }
 
-fn no_columns() -> [[Ports; PORT_COUNT]; RANKS]
-    ensures { result ≡ replicate RANKS (replicate MAX_PORTS 0) }
-{
-    [[0; PORT_COUNT]; RANKS]
-}
-
-fn no_sets() -> [Ports; PORT_COUNT]
-    ensures { result ≡ replicate MAX_PORTS 0 }
-{
-    [0; PORT_COUNT]
-}
-
 // Turns the rows' sets of the level and kind into columns, one for each of the ports.
 fn gather(
     n: u32,
     rows: &[Row],
     level: u8,
     kind: Kind,
-    sets: &mut [Ports; PORT_COUNT],
+    collected: &mut [Ports; PORT_COUNT],
     columns: &mut [Ports; PORT_COUNT],
 )
     requires size { n ≤ MAX_PORTS }
@@ -126,18 +114,18 @@ fn gather(
     requires level_in { level < LEVELS }
     ensures { (i j : ℕ) → j < n → Has (slice_index columns.new j) i ↔ ((i < n) × Names (row_of rows.now i) level kind j) }
 {
-    collect(n, rows, level, kind, sets);
-    transpose(n, &sets[..n as usize], &mut columns[..n as usize]);
+    collect(n, rows, level, kind, collected);
+    transpose(n, &collected[..n as usize], &mut columns[..n as usize]);
 }
 
 // Copies the rows' sets of the level and kind.
-fn collect(n: u32, rows: &[Row], level: u8, kind: Kind, sets: &mut [Ports; PORT_COUNT])
+fn collect(n: u32, rows: &[Row], level: u8, kind: Kind, collected: &mut [Ports; PORT_COUNT])
     requires size { n ≤ MAX_PORTS }
     requires rows { length rows.now ≡ n }
     requires level_in { level < LEVELS }
-    ensures { (i : ℕ) → i < n → slice_index sets.new i ≡ slice_index (sets_of (row_of rows.now i) kind) level }
+    ensures { (i : ℕ) → i < n → slice_index collected.new i ≡ slice_index (sets_of (row_of rows.now i) kind) level }
 {
     for i in 0..n {
-        sets[i as usize] = rows[i as usize].outputs(level, kind);
+        collected[i as usize] = rows[i as usize].outputs(level, kind);
     }
 }

@@ -5,27 +5,53 @@ ghost use Rattle.slot_match.specs.Matches.{IsMatch};
 ghost use Rattle.eslip_rounds.specs.declared.grants.Choice.{Choice};
 ghost use Rattle.eslip_rounds.specs.Rounds.{from_of};
 ghost use Rattle.eslip_rounds.specs.RankSteps.{level_at, kind_at};
-ghost use Rattle.eslip_rounds.specs.Steps.{MayAsk, AreReady, IsChosen, AreOffers, IsOffered};
+ghost use Rattle.eslip_rounds.specs.Steps.{MayAsk, AreReady, KeepsToPorts, IsChosen, AreOffers, IsOffered};
 
 use crate::asks::Asks;
-use crate::ranks::{RANKS, kind_of, level_of};
+use crate::ranks::{RANKS, kind_of, level_of, set_of};
 use pointer_state::Pointers;
 use rotating_pick::{
-    Kind, LEVELS, MAX_PORTS, PORT_COUNT, Ports, contains, intersection, lowest, pick, union, with,
-    without,
+    Kind, LEVELS, MAX_PORTS, PORT_COUNT, Ports, contains, intersection, is_empty, lowest, pick,
+    union, with, without,
 };
 use slot_match::Match;
 
-/// The inputs that may ask at each rank.
-pub(crate) fn ready_inputs(first_kind: Kind, matched: &Match) -> [Ports; RANKS]
+/// The inputs that may ask.
+#[derive(Drop)]
+pub(crate) struct Ready {
+    /// The ranks at which some row names an output.
+    pub ranks: Ports,
+    /// For each of them the inputs that may ask there.
+    pub inputs: [Ports; RANKS],
+}
+
+/// The inputs that may ask at each rank that occurs.
+pub(crate) fn ready_inputs(first_kind: Kind, asks: &Asks, matched: &Match) -> Ready
     requires { IsMatch (length matched.now) matched.now }
-    ensures { AreReady (length matched.now) first_kind matched.now result }
+    ensures { AreReady (length matched.now) first_kind asks.now matched.now result }
 {
-    let mut ready = [0; RANKS];
+    let mut ready = nobody_ready();
     for rank in 0..RANKS as u32 {
-        ready[rank as usize] = ready_at(matched, level_of(rank), kind_of(first_kind, rank));
+        if !is_empty(asks.outputs[set_of(first_kind, rank)]) {
+            ready.ranks = with(ready.ranks, rank);
+            ready.inputs[rank as usize] = ready_at(
+                matched,
+                level_of(rank),
+                kind_of(first_kind, rank),
+            );
+        }
     }
     ready
+}
+
+// Nobody, at no rank.
+fn nobody_ready() -> Ready
+    ensures { result.ranks ≡ 0 }
+{
+    Ready {
+        ranks: 0,
+        inputs: [0; RANKS],
+    }
 }
 
 // The inputs that may ask at the level with the kind.
@@ -63,15 +89,14 @@ pub(crate) fn offer_all(
     n: u32,
     first_kind: Kind,
     asks: &Asks,
-    ready: &[Ports; RANKS],
+    ready: &Ready,
     p: &Pointers,
     free_outputs: Ports,
     offers: &mut Offers,
 )
     requires size { n ≤ MAX_PORTS }
     requires ports { p.now.ports ≡ n }
-    requires ready { (rank i : ℕ) → rank < RANKS → Has (slice_index ready.now rank) i → i < n }
-    requires ranks { (rank : ℕ) → Has asks.now.ranks rank → rank < RANKS }
+    requires ready { KeepsToPorts n ready.now }
     requires free { (j : ℕ) → Has free_outputs j → j < n }
     requires nothing { offers.old.granted ≡ 0 }
     ensures { AreOffers (λ i j rank. Has free_outputs j × IsChosen n first_kind asks.now ready.now p.now j (record { rank = rank; input = i })) offers.new }
@@ -101,21 +126,20 @@ pub(crate) fn chosen(
     n: u32,
     first_kind: Kind,
     asks: &Asks,
-    ready: &[Ports; RANKS],
+    ready: &Ready,
     p: &Pointers,
     j: u32,
 ) -> Option<Choice>
     requires size { n ≤ MAX_PORTS }
     requires ports { p.now.ports ≡ n }
     requires j_in { j < n }
-    requires ready { (rank i : ℕ) → rank < RANKS → Has (slice_index ready.now rank) i → i < n }
-    requires ranks { (rank : ℕ) → Has asks.now.ranks rank → rank < RANKS }
+    requires ready { KeepsToPorts n ready.now }
     ensures { (f : Choice) → (result ≡ Some f) ↔ IsChosen n first_kind asks.now ready.now p.now j f }
 {
-    let mut rest = asks.ranks;
+    let mut rest = ready.ranks;
     while let Some(rank) = lowest(rest) {
-        let at = rank as usize;
-        let asking = intersection(asks.columns[at][j as usize], ready[at]);
+        let column = asks.columns[set_of(first_kind, rank)][j as usize];
+        let asking = intersection(column, ready.inputs[rank as usize]);
         if let Some(input) = pick(n, pointer_at(p, first_kind, j, rank), asking) {
             return Some(Choice { rank, input });
         }

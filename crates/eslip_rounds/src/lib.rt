@@ -7,6 +7,7 @@
 
 mod accepts;
 mod asks;
+mod columns;
 mod grants;
 pub mod laws;
 mod moves;
@@ -15,5 +16,8 @@ mod refusals;
 mod rounds;
 mod slot;
 
+pub use columns::Columns;
 pub use refusals::Refused;
-pub use slot::{Scratch, decide, decide_in, decide_with_refused};
+pub use slot::{
+    Scratch, decide, decide_in, decide_over, decide_over_with_refused, decide_with_refused,
+};

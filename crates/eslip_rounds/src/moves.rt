@@ -1,26 +1,28 @@
-ghost use Rattle.std.specs.Prelude.{◌≡◌, ℕ, Some, ◌<◌, ◌≤◌, ◌↔◌, List, Option, length, IsTrue};
+ghost use Rattle.std.specs.Prelude.{◌≡◌, ℕ, Some, ◌<◌, ◌≤◌, ◌↔◌, List, Option, slice_index, IsTrue};
 ghost use Rattle.rotating_pick.specs.PortSets.{Has};
 ghost use Rattle.rotating_pick.specs.declared.kinds.Kind.TheVariants.{Uni, Multi};
 ghost use Rattle.slot_match.specs.declared.matching.Fed.{Fed};
 ghost use Rattle.slot_match.specs.Keeping.{Gives};
-ghost use Rattle.slot_match.specs.Rows.{Names, row_of, AreWithin, HasHead};
+ghost use Rattle.slot_match.specs.Rows.{AreWithin, HasHead};
 ghost use Rattle.slot_match.specs.Matches.{Serves, IsMatch, Completes};
 ghost use Rattle.pointer_state.specs.Places.{AreAtPorts, grant_of, accept_of, shared_of};
 ghost use Rattle.eslip_rounds.specs.Slots.{AreMoved};
-ghost use Rattle.eslip_rounds.specs.Steps.{AreMet, IsPassed};
+ghost use Rattle.eslip_rounds.specs.Steps.{AreAsks, AreMet, IsPassed};
 
+use crate::asks::Asks;
+use crate::ranks::set_of_heads;
 use pointer_state::Pointers;
 use rotating_pick::{
-    Kind, LEVELS, MAX_PORTS, Ports, is_empty, is_subset, lowest, pick, with, without,
+    Kind, LEVELS, MAX_PORTS, PORT_COUNT, Ports, is_empty, is_subset, lowest, pick, union, without,
 };
 use slot_match::{Fed, Match, Row, Served};
 
 /// Moves the pointers after the rounds of a slot: those of the unicast pairs of `first_outputs`, which the
-/// first round matched, and each level's shared pointer. `named` names all that the rows do.
+/// first round matched, and each level's shared pointer.
 pub(crate) fn move_pointers(
     n: u32,
     rows: &[Row],
-    named: &Row,
+    asks: &Asks,
     matched: &Match,
     first_outputs: Ports,
     p: &mut Pointers,
@@ -30,7 +32,7 @@ pub(crate) fn move_pointers(
     requires ports { p.old.ports ≡ n }
     requires whole { IsMatch n matched.now }
     requires rows { AreWithin n rows.now }
-    requires named { (i j level : ℕ) → i < n → Names (row_of rows.now i) level Multi j → Names named.now level Multi j }
+    requires asks { AreAsks n rows.now asks.now }
     requires first_outputs { (j : ℕ) → Has first_outputs j → j < n }
     ensures moved { (t : ℕ) (first_match : List (Option Fed))
         → ((i j level : ℕ) → (Has first_outputs j × Serves matched.now i j level Uni) ↔ Serves first_match i j level Uni)
@@ -38,7 +40,7 @@ pub(crate) fn move_pointers(
     ensures at_ports { AreAtPorts p.new }
 {
     meet(matched, first_outputs, p);
-    pass_all(n, rows, named, matched, p);
+    pass_all(n, rows, asks, matched, p);
 }
 
 // Moves the pointers of each unicast pair of the outputs that the first round matched.
@@ -59,14 +61,13 @@ fn meet(matched: &Match, first_outputs: Ports, p: &mut Pointers)
 }
 
 // Moves each level's shared pointer one beyond the first head from it on, where that completes.
-// `named` names all that the rows do.
-fn pass_all(n: u32, rows: &[Row], named: &Row, matched: &Match, p: &mut Pointers)
+fn pass_all(n: u32, rows: &[Row], asks: &Asks, matched: &Match, p: &mut Pointers)
     requires at_ports { AreAtPorts p.old }
     requires size { n ≤ MAX_PORTS }
     requires ports { p.old.ports ≡ n }
     requires whole { IsMatch n matched.now }
     requires rows { AreWithin n rows.now }
-    requires named { (i j level : ℕ) → i < n → Names (row_of rows.now i) level Multi j → Names named.now level Multi j }
+    requires asks { AreAsks n rows.now asks.now }
     ensures passed { (level : ℕ) → level < LEVELS → IsPassed n rows.now matched.now p.old p.new level }
     ensures beyond { (level : ℕ) → LEVELS ≤ level → shared_of p.new level ≡ shared_of p.old level }
     ensures ports { p.new.ports ≡ p.old.ports }
@@ -75,7 +76,7 @@ fn pass_all(n: u32, rows: &[Row], named: &Row, matched: &Match, p: &mut Pointers
     ensures at_ports { AreAtPorts p.new }
 {
     for level in 0..LEVELS as u8 {
-        pass(n, rows, named, matched, level, p);
+        pass(n, rows, asks, matched, level, p);
     }
 }
 
@@ -96,13 +97,13 @@ fn meet_one(fed: Option<Fed>, j: u32, p: &mut Pointers)
 }
 
 // Moves the level's shared pointer one beyond the first head from it on, where that completes.
-fn pass(n: u32, rows: &[Row], named: &Row, matched: &Match, level: u8, p: &mut Pointers)
+fn pass(n: u32, rows: &[Row], asks: &Asks, matched: &Match, level: u8, p: &mut Pointers)
     requires at_ports { AreAtPorts p.old }
     requires size { n ≤ MAX_PORTS }
     requires ports { p.old.ports ≡ n }
     requires whole { IsMatch n matched.now }
     requires rows { AreWithin n rows.now }
-    requires named { (i j m : ℕ) → i < n → Names (row_of rows.now i) m Multi j → Names named.now m Multi j }
+    requires asks { AreAsks n rows.now asks.now }
     requires level_in { level < LEVELS }
     ensures passed { IsPassed n rows.now matched.now p.old p.new level }
     ensures others { (other : ℕ) → (other ≡ level → ⊥) → shared_of p.new other ≡ shared_of p.old other }
@@ -111,7 +112,7 @@ fn pass(n: u32, rows: &[Row], named: &Row, matched: &Match, level: u8, p: &mut P
     ensures accepts { (i other : ℕ) → accept_of p.new i other ≡ accept_of p.old i other }
     ensures at_ports { AreAtPorts p.new }
 {
-    let posted = heads(n, rows, named, level);
+    let posted = heads(n, rows, asks, level);
     if let Some(i) = pick(n, p.shared(level), posted) {
         let fan = rows[i as usize].multi[level as usize];
         if completes(fan, matched.served(i), level) {
@@ -120,24 +121,29 @@ fn pass(n: u32, rows: &[Row], named: &Row, matched: &Match, level: u8, p: &mut P
     }
 }
 
-// The inputs that post a multicast head at the level. No row is read where `named` names no such head.
-fn heads(n: u32, rows: &[Row], named: &Row, level: u8) -> Ports
+// The inputs that post a multicast head at the level.
+fn heads(n: u32, rows: &[Row], asks: &Asks, level: u8) -> Ports
     requires size { n ≤ MAX_PORTS }
     requires rows { AreWithin n rows.now }
+    requires asks { AreAsks n rows.now asks.now }
     requires level_in { level < LEVELS }
-    requires named { (i j m : ℕ) → i < n → Names (row_of rows.now i) m Multi j → Names named.now m Multi j }
     ensures { (i : ℕ) → Has result i ↔ ((i < n) × HasHead rows.now level i) }
 {
-    if is_empty(named.multi[level as usize]) {
-        return 0;
+    let set = set_of_heads(level);
+    joined(asks.outputs[set], &asks.columns[set])
+}
+
+// The inputs that are in any of the columns of these outputs.
+fn joined(outputs: Ports, columns: &[Ports; PORT_COUNT]) -> Ports
+    ensures { (i : ℕ) → Has result i ↔ ((j : ℕ) × Has outputs j × Has (slice_index columns.now j) i) }
+{
+    let mut all = 0;
+    let mut rest = outputs;
+    while let Some(j) = lowest(rest) {
+        all = union(all, columns[j as usize]);
+        rest = without(rest, j);
     }
-    let mut posted = 0;
-    for i in 0..n {
-        if !is_empty(rows[i as usize].multi[level as usize]) {
-            posted = with(posted, i);
-        }
-    }
-    posted
+    all
 }
 
 // Whether the part serves all of the fan-out, as multicast of the level.

@@ -1,13 +1,17 @@
-ghost use Rattle.std.specs.Prelude.{◌≡◌, ◌<◌};
+ghost use Rattle.std.specs.Prelude.{◌≡◌, ◌+◌, ◌*◌, ◌<◌};
 ghost use Rattle.rotating_pick.specs.declared.limits.TheConstants.{LEVELS};
 ghost use Rattle.eslip_rounds.specs.Rounds.{preferred};
-ghost use Rattle.eslip_rounds.specs.RankSteps.{level_at, kind_at};
+ghost use Rattle.eslip_rounds.specs.RankSteps.{level_at, kind_at, set_at};
 ghost use Rattle.eslip_rounds.specs.Rounds.{other_kind};
 
 use rotating_pick::{Kind, MAX_PORTS};
 
 /// The number of ranks: two kinds of four levels.
 pub(crate) const RANKS: usize = 8;
+
+/// The number of sets of a row: for each level that of unicast and that of multicast. The number of a set is its rank
+/// where unicast is preferred.
+pub(crate) const SETS: usize = RANKS;
 
 /// The kind that the slot prefers: unicast in even slots, multicast in odd ones.
 pub(crate) fn preferred_kind(slot: u32) -> Kind
@@ -38,6 +42,28 @@ pub(crate) fn kind_of(first_kind: Kind, rank: u32) -> Kind
     } else {
         other(first_kind)
     }
+}
+
+/// The set of a rank, where `first_kind` is preferred.
+pub(crate) fn set_of(first_kind: Kind, rank: u32) -> usize
+    requires { rank < RANKS }
+    ensures value { result ≡ set_at first_kind rank }
+    ensures set_in { result < SETS }
+{
+    let other = if rank % 2 == 0 { rank + 1 } else { rank - 1 };
+    match first_kind {
+        Kind::Uni => rank as usize,
+        Kind::Multi => other as usize,
+    }
+}
+
+/// The set of the multicast heads of the level.
+pub(crate) fn set_of_heads(level: u8) -> usize
+    requires { level < LEVELS }
+    ensures value { result ≡ 2 * level + 1 }
+    ensures set_in { result < SETS }
+{
+    level as usize * 2 + 1
 }
 
 fn other(kind: Kind) -> Kind

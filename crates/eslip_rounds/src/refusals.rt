@@ -3,17 +3,18 @@ ghost use Rattle.rotating_pick.specs.PortSets.{Has};
 ghost use Rattle.rotating_pick.specs.declared.kinds.Kind.{Kind};
 ghost use Rattle.slot_match.specs.Matches.{unmatched};
 ghost use Rattle.eslip_rounds.specs.declared.grants.Choice.{Choice};
-ghost use Rattle.eslip_rounds.specs.Steps.{AreReady, IsUnicastChoice, AreToldOf};
+ghost use Rattle.eslip_rounds.specs.Steps.{IsNamed, AreReady, IsUnicastChoice, AreToldOf};
 ghost use Rattle.eslip_rounds.specs.Refusals.{Tells};
 
 use crate::asks::Asks;
-use crate::grants::{Choice, chosen};
+use crate::grants::{Choice, Ready, chosen, ready_inputs};
 use crate::ranks::{RANKS, kind_of, level_of};
 use pointer_state::Pointers;
 use rotating_pick::{
     Kind, LEVELS, MAX_PORTS, PORT_COUNT, Ports, all, difference, intersection, lowest, with,
     without,
 };
+use slot_match::Match;
 
 /// The unicast grants of a slot's first round that were not accepted.
 #[derive(Clone, Copy)]
@@ -26,44 +27,42 @@ pub struct Refused {
     pub levels: [u8; PORT_COUNT],
 }
 
-/// The unicast grants of the first round, of which `first_outputs` were accepted.
+/// Tells the unicast grants of the first round, of which `first_outputs` were accepted. What `refused` held is not read.
 pub(crate) fn refused_grants(
     n: u32,
     first_kind: Kind,
     asks: &Asks,
     p: &Pointers,
     first_outputs: Ports,
-) -> Refused
+    refused: &mut Refused,
+)
     requires some { 0 < n }
     requires size { n ≤ MAX_PORTS }
     requires ports { p.now.ports ≡ n }
-    requires ranks { (rank : ℕ) → Has asks.now.ranks rank → rank < RANKS }
-    ensures { AreToldOf n first_kind asks.now p.now (λ j. ((j < n) × (Has first_outputs j → ⊥)) × Has asks.now.outputs j) result }
+    ensures { AreToldOf n first_kind asks.now p.now (λ j. ((j < n) × (Has first_outputs j → ⊥)) × IsNamed asks.now j) refused.new }
 {
-    let ready = all_ready(n);
-    let mut refused = none_refused();
+    let ready = all_ready(n, first_kind, asks);
+    refused.outputs = 0;
     let left = difference(all(n), first_outputs);
-    let mut rest = intersection(left, asks.outputs);
+    let mut rest = intersection(left, asks.named());
     while let Some(j) = lowest(rest) {
         let choice = chosen(n, first_kind, asks, &ready, p, j);
-        note(first_kind, j, choice, &mut refused);
+        note(first_kind, j, choice, refused);
         rest = without(rest, j);
     }
-    refused
 }
 
-// Before the first round all inputs may ask, at each rank.
-fn all_ready(n: u32) -> [Ports; RANKS]
+// Before the first round all inputs may ask.
+fn all_ready(n: u32, first_kind: Kind, asks: &Asks) -> Ready
     requires some { 0 < n }
     requires size { n ≤ MAX_PORTS }
-    ensures { (first_kind : Kind) → AreReady n first_kind (unmatched n) result }
+    ensures { AreReady n first_kind asks.now (unmatched n) result }
 {
-    [all(n); RANKS]
+    ready_inputs(first_kind, asks, &Match::new(n))
 }
 
-fn none_refused() -> Refused
-    ensures { result.outputs ≡ 0 }
-{
+/// No grant.
+pub(crate) fn none_refused() -> Refused {
     Refused {
         outputs: 0,
         inputs: [0; PORT_COUNT],

@@ -1,15 +1,13 @@
-ghost use Rattle.std.specs.Prelude.{◌≡◌, ℕ, ◌<◌, ◌≤◌, List, length};
-ghost use Rattle.rotating_pick.specs.PortSets.{Has};
+ghost use Rattle.std.specs.Prelude.{◌≡◌, ℕ, ◌<◌, ◌≤◌, List};
 ghost use Rattle.pointer_state.specs.Places.{AreAtPorts};
 ghost use Rattle.slot_match.specs.declared.rows.Row.{Row};
 ghost use Rattle.slot_match.specs.Matches.{IsMatch};
 ghost use Rattle.eslip_rounds.specs.Rounds.{preferred};
-ghost use Rattle.eslip_rounds.specs.Steps.{column_of, AreAsks, IsStep, AreMade};
+ghost use Rattle.eslip_rounds.specs.Steps.{AreNamed, AreAsks, IsStep, AreMade};
 
 use crate::accepts::accept_all;
 use crate::asks::Asks;
 use crate::grants::{Offers, offer_all, ready_inputs};
-use crate::ranks::RANKS;
 use islip_rounds::RoundsUsed;
 use pointer_state::Pointers;
 use rotating_pick::{Kind, MAX_PORTS, MAX_ROUNDS, Ports, all, difference, intersection};
@@ -41,9 +39,8 @@ pub(crate) fn make_rounds(
     requires rounds_few { rounds ≤ MAX_ROUNDS }
     requires ports { p.now.ports ≡ n }
     requires at_ports { AreAtPorts p.now }
-    requires ranks { (rank : ℕ) → Has asks.now.ranks rank → rank < RANKS }
-    requires asked { (rank i j : ℕ) → Has asks.now.ranks rank → j < n → Has (column_of asks.now.columns rank j) i → Has asks.now.outputs j }
-    ensures made { (t : ℕ) (rows : List Row) → first_kind ≡ preferred t → AreAsks n first_kind rows asks.now → AreMade n rounds t rows p.now out.new result }
+    requires asked { AreNamed n asks.now }
+    ensures made { (t : ℕ) (rows : List Row) → first_kind ≡ preferred t → AreAsks n rows asks.now → AreMade n rounds t rows p.now out.new result }
     ensures whole { IsMatch n out.new }
 {
     *out = Match::new(n);
@@ -75,13 +72,12 @@ fn round(n: u32, first_kind: Kind, asks: &Asks, offers: &mut Offers, p: &Pointer
     requires ports { p.now.ports ≡ n }
     requires at_ports { AreAtPorts p.now }
     requires whole { IsMatch n out.old }
-    requires ranks { (rank : ℕ) → Has asks.now.ranks rank → rank < RANKS }
-    requires asked { (rank i j : ℕ) → Has asks.now.ranks rank → j < n → Has (column_of asks.now.columns rank j) i → Has asks.now.outputs j }
+    requires asked { AreNamed n asks.now }
     ensures step { IsStep n first_kind asks.now p.now out.old out.new }
     ensures whole { IsMatch n out.new }
 {
-    let ready = ready_inputs(first_kind, out);
-    let asked = intersection(out.free_outputs(), asks.outputs);
+    let ready = ready_inputs(first_kind, asks, out);
+    let asked = intersection(out.free_outputs(), asks.named());
     offers.granted = 0;
     offer_all(n, first_kind, asks, &ready, p, asked, offers);
     accept_all(n, first_kind, offers, p, out);

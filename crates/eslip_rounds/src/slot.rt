@@ -1,20 +1,21 @@
-ghost use Rattle.std.specs.Prelude.{◌≡◌, ◌<◌, ◌≤◌, length};
+ghost use Rattle.std.specs.Prelude.{◌≡◌, ◌<◌, IsTrue};
 ghost use Rattle.slot_match.specs.Rows.{AreWithin};
-ghost use Rattle.slot_match.specs.Matches.{IsMatch, IsMaximal};
-ghost use Rattle.pointer_state.specs.Places.{AreAtPorts};
-ghost use Rattle.eslip_rounds.specs.Slots.{IsSlot};
+ghost use Rattle.eslip_rounds.specs.Slots.{AreMoved};
+ghost use Rattle.eslip_rounds.specs.Steps.{AreAsks};
 ghost use Rattle.eslip_rounds.specs.Refusals.{AreRefused};
 ghost use Rattle.eslip_rounds.specs.Decisions.{decision_of};
+ghost use Rattle.eslip_rounds.specs.Calls.{CanDecide, IsDecidedBy};
 
 use crate::asks::Asks;
+use crate::columns::Columns;
 use crate::grants::{Offers, no_offers};
 use crate::moves::move_pointers;
 use crate::ranks::preferred_kind;
-use crate::refusals::{Refused, refused_grants};
+use crate::refusals::{Refused, none_refused, refused_grants};
 use crate::rounds::make_rounds;
 use islip_rounds::RoundsUsed;
 use pointer_state::Pointers;
-use rotating_pick::{MAX_PORTS, MAX_ROUNDS};
+use rotating_pick::{PORT_COUNT, Ports};
 use slot_match::{Match, Row};
 use std::marker::Model;
 
@@ -29,23 +30,8 @@ pub fn decide(
     p: &mut Pointers,
     out: &mut Match,
 ) -> RoundsUsed
-    requires some { 0 < n }
-    requires size { n ≤ MAX_PORTS }
-    requires rounds_some { 0 < rounds }
-    requires rounds_few { rounds ≤ MAX_ROUNDS }
-    requires rows { AreWithin n rows.now }
-    requires pointers { p.old.ports ≡ n }
-    requires matched { length out.old ≡ n }
-    ensures slot { IsSlot n rounds slot rows.now p.old (record { matched = out.new; numbers = result; places = p.new }) }
-
-    // The same as one value: a slot leaves no choice.
-    ensures decision { record { matched = out.new; numbers = result; places = p.new } ≡ decision_of n rounds slot rows.now p.old }
-    ensures whole { IsMatch n out.new }
-    ensures at_ports { AreAtPorts p.new }
-
-    // The match is maximal where the last round of all added nothing, and where there are n rounds.
-    ensures unused { result.last_added ≡ 0 → IsMaximal n rows.now out.new }
-    ensures enough { n ≤ rounds → IsMaximal n rows.now out.new }
+    requires { CanDecide n rounds rows.now p.old out.old }
+    ensures { IsDecidedBy AreMoved decision_of n rounds slot rows.now p.old (record { matched = out.new; numbers = result; places = p.new }) }
 {
     let mut scratch = Scratch::new();
     decide_in(n, rounds, slot, rows, p, out, &mut scratch)
@@ -56,7 +42,10 @@ pub fn decide(
 #[derive(Drop)]
 pub struct Scratch {
     asks: Asks,
+    // What each row names in one set, while that is turned into columns.
+    collected: [Ports; PORT_COUNT],
     offers: Offers,
+    refused: Refused,
 }
 
 impl Model for Scratch {
@@ -70,7 +59,9 @@ impl Scratch {
     pub fn new() -> Scratch {
         Scratch {
             asks: Asks::new(),
+            collected: [0; PORT_COUNT],
             offers: no_offers(),
+            refused: none_refused(),
         }
     }
 }
@@ -85,34 +76,43 @@ pub fn decide_in(
     out: &mut Match,
     scratch: &mut Scratch,
 ) -> RoundsUsed
-    requires some { 0 < n }
-    requires size { n ≤ MAX_PORTS }
-    requires rounds_some { 0 < rounds }
-    requires rounds_few { rounds ≤ MAX_ROUNDS }
-    requires rows { AreWithin n rows.now }
-    requires pointers { p.old.ports ≡ n }
-    requires matched { length out.old ≡ n }
-    ensures slot { IsSlot n rounds slot rows.now p.old (record { matched = out.new; numbers = result; places = p.new }) }
-
-    // The same as one value: a slot leaves no choice.
-    ensures decision { record { matched = out.new; numbers = result; places = p.new } ≡ decision_of n rounds slot rows.now p.old }
-    ensures whole { IsMatch n out.new }
-    ensures at_ports { AreAtPorts p.new }
-
-    // The match is maximal where the last round of all added nothing, and where there are n rounds.
-    ensures unused { result.last_added ≡ 0 → IsMaximal n rows.now out.new }
-    ensures enough { n ≤ rounds → IsMaximal n rows.now out.new }
+    requires { CanDecide n rounds rows.now p.old out.old }
+    ensures { IsDecidedBy AreMoved decision_of n rounds slot rows.now p.old (record { matched = out.new; numbers = result; places = p.new }) }
 {
-    prove!(p.ports() == n);
-    let first_kind = preferred_kind(slot);
-    scratch.asks.read(n, first_kind, rows);
-    let offers = &mut scratch.offers;
-    let made = make_rounds(n, rounds, first_kind, &scratch.asks, offers, p, out);
-    move_pointers(n, rows, &scratch.asks.named, out, made.first_outputs, p);
-    made.numbers
+    let turn = Turn {
+        rounds,
+        slot,
+        tells: false,
+    };
+    scratch.asks.read(n, rows, &mut scratch.collected);
+    let (offers, refused) = (&mut scratch.offers, &mut scratch.refused);
+    decide_asked(n, turn, rows, &scratch.asks, p, out, offers, refused)
 }
 
-/// Decides the slot as [`decide`] does, and answers beside the numbers which unicast grants of the first
+/// Decides the slot as [`decide_in`] does, of rows that the caller keeps by columns. Takes no memory.
+pub fn decide_over(
+    n: u32,
+    rounds: u32,
+    slot: u32,
+    columns: &Columns,
+    p: &mut Pointers,
+    out: &mut Match,
+    scratch: &mut Scratch,
+) -> RoundsUsed
+    requires { CanDecide n rounds columns.now p.old out.old }
+    ensures { IsDecidedBy AreMoved decision_of n rounds slot columns.now p.old (record { matched = out.new; numbers = result; places = p.new }) }
+{
+    let turn = Turn {
+        rounds,
+        slot,
+        tells: false,
+    };
+    let (offers, refused) = (&mut scratch.offers, &mut scratch.refused);
+    let (rows, asks) = (columns.rows(), columns.asks());
+    decide_asked(n, turn, rows, asks, p, out, offers, refused)
+}
+
+/// Decides the slot as [`decide_in`] does, and answers beside the numbers which unicast grants of the first
 /// round were not accepted. Takes no memory.
 pub fn decide_with_refused(
     n: u32,
@@ -121,33 +121,78 @@ pub fn decide_with_refused(
     rows: &[Row],
     p: &mut Pointers,
     out: &mut Match,
+    scratch: &mut Scratch,
 ) -> (RoundsUsed, Refused)
-    requires some { 0 < n }
-    requires size { n ≤ MAX_PORTS }
-    requires rounds_some { 0 < rounds }
-    requires rounds_few { rounds ≤ MAX_ROUNDS }
-    requires rows { AreWithin n rows.now }
-    requires pointers { p.old.ports ≡ n }
-    requires matched { length out.old ≡ n }
-    ensures slot { IsSlot n rounds slot rows.now p.old (record { matched = out.new; numbers = result.0; places = p.new }) }
-
-    // The same as one value: a slot leaves no choice.
-    ensures decision { record { matched = out.new; numbers = result.0; places = p.new } ≡ decision_of n rounds slot rows.now p.old }
-    ensures whole { IsMatch n out.new }
-    ensures at_ports { AreAtPorts p.new }
-
-    // The match is maximal where the last round of all added nothing, and where there are n rounds.
-    ensures unused { result.0.last_added ≡ 0 → IsMaximal n rows.now out.new }
-    ensures enough { n ≤ rounds → IsMaximal n rows.now out.new }
+    requires { CanDecide n rounds rows.now p.old out.old }
+    ensures decided { IsDecidedBy AreMoved decision_of n rounds slot rows.now p.old (record { matched = out.new; numbers = result.0; places = p.new }) }
     ensures refused { AreRefused n slot rows.now p.old result.1 }
 {
+    let turn = Turn {
+        rounds,
+        slot,
+        tells: true,
+    };
+    scratch.asks.read(n, rows, &mut scratch.collected);
+    let (offers, refused) = (&mut scratch.offers, &mut scratch.refused);
+    let numbers = decide_asked(n, turn, rows, &scratch.asks, p, out, offers, refused);
+    (numbers, scratch.refused)
+}
+
+/// Decides the slot as [`decide_with_refused`] does, of rows that the caller keeps by columns. Takes no memory.
+pub fn decide_over_with_refused(
+    n: u32,
+    rounds: u32,
+    slot: u32,
+    columns: &Columns,
+    p: &mut Pointers,
+    out: &mut Match,
+    scratch: &mut Scratch,
+) -> (RoundsUsed, Refused)
+    requires { CanDecide n rounds columns.now p.old out.old }
+    ensures decided { IsDecidedBy AreMoved decision_of n rounds slot columns.now p.old (record { matched = out.new; numbers = result.0; places = p.new }) }
+    ensures refused { AreRefused n slot columns.now p.old result.1 }
+{
+    let turn = Turn {
+        rounds,
+        slot,
+        tells: true,
+    };
+    let (offers, refused) = (&mut scratch.offers, &mut scratch.refused);
+    let (rows, asks) = (columns.rows(), columns.asks());
+    let numbers = decide_asked(n, turn, rows, asks, p, out, offers, refused);
+    (numbers, scratch.refused)
+}
+
+// Which slot is decided, in how many rounds, and whether its refused grants are told.
+#[derive(Clone, Copy)]
+struct Turn {
+    rounds: u32,
+    slot: u32,
+    tells: bool,
+}
+
+// Decides the slot of these rows, which ask so. What `offers` and `refused` held is not read.
+fn decide_asked(
+    n: u32,
+    turn: Turn,
+    rows: &[Row],
+    asks: &Asks,
+    p: &mut Pointers,
+    out: &mut Match,
+    offers: &mut Offers,
+    refused: &mut Refused,
+) -> RoundsUsed
+    requires can { CanDecide n turn.rounds rows.now p.old out.old }
+    requires asks { AreAsks n rows.now asks.now }
+    ensures decided { IsDecidedBy AreMoved decision_of n turn.rounds turn.slot rows.now p.old (record { matched = out.new; numbers = result; places = p.new }) }
+    ensures refused { IsTrue turn.tells → AreRefused n turn.slot rows.now p.old refused.new }
+{
     prove!(p.ports() == n);
-    let first_kind = preferred_kind(slot);
-    let mut asks = Asks::new();
-    asks.read(n, first_kind, rows);
-    let mut offers = no_offers();
-    let made = make_rounds(n, rounds, first_kind, &asks, &mut offers, p, out);
-    let refused = refused_grants(n, first_kind, &asks, p, made.first_outputs);
-    move_pointers(n, rows, &asks.named, out, made.first_outputs, p);
-    (made.numbers, refused)
+    let first_kind = preferred_kind(turn.slot);
+    let made = make_rounds(n, turn.rounds, first_kind, asks, offers, p, out);
+    if turn.tells {
+        refused_grants(n, first_kind, asks, p, made.first_outputs, refused);
+    }
+    move_pointers(n, rows, asks, out, made.first_outputs, p);
+    made.numbers
 }

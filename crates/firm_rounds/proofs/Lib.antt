@@ -8,3 +8,4 @@ pub mod Computed
 pub mod PointersMoved
 pub mod OneRoundSlots
 pub mod OneRoundFamily
+pub mod HeldSlots

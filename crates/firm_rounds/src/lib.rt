@@ -7,4 +7,4 @@
 pub mod laws;
 mod slot;
 
-pub use slot::decide_firm;
+pub use slot::{decide_firm, decide_firm_in, decide_firm_over};

@@ -159,6 +159,7 @@ impl Block {
             rows,
             &mut p,
             &mut matched,
+            &mut Scratch::new(),
         );
         Ok(refused_text(alloc, &refused)?)
     }

@@ -1,15 +1,12 @@
-ghost use Rattle.std.specs.Prelude.{◌≡◌, ◌<◌, ◌≤◌, length};
-ghost use Rattle.slot_match.specs.Rows.{AreWithin};
-ghost use Rattle.slot_match.specs.Matches.{IsMatch};
-ghost use Rattle.pointer_state.specs.Places.{AreAtPorts};
-ghost use Rattle.named_schedulers.specs.Named.{decision_named};
+ghost use Rattle.std.specs.Prelude.{◌≡◌};
+ghost use Rattle.eslip_rounds.specs.Calls.{CanDecide, IsDecidedBy};
+ghost use Rattle.named_schedulers.specs.Named.{decision_named, moves_named};
 
-use eslip_rounds::{Scratch, decide_in};
-use firm_rounds::decide_firm;
+use eslip_rounds::{Columns, Scratch, decide_in, decide_over};
+use firm_rounds::{decide_firm_in, decide_firm_over};
 use islip_rounds::RoundsUsed;
 use pointer_state::Pointers;
-use rotating_pick::{MAX_PORTS, MAX_ROUNDS};
-use rrm_rounds::decide_rrm;
+use rrm_rounds::{decide_rrm_in, decide_rrm_over};
 use scheduler_names::SchedulerName;
 use slot_match::{Match, Row};
 use std::marker::Model;
@@ -52,22 +49,39 @@ impl NamedScheduler {
         p: &mut Pointers,
         out: &mut Match,
     ) -> RoundsUsed
-        requires some { 0 < n }
-        requires size { n ≤ MAX_PORTS }
-        requires rounds_some { 0 < rounds }
-        requires rounds_few { rounds ≤ MAX_ROUNDS }
-        requires rows { AreWithin n rows.now }
-        requires pointers { p.old.ports ≡ n }
-        requires matched { length out.old ≡ n }
+        requires { CanDecide n rounds rows.now p.old out.old }
         ensures name { self.new ≡ self.old }
-        ensures decision { record { matched = out.new; numbers = result; places = p.new } ≡ decision_named self.old n rounds slot rows.now p.old }
-        ensures whole { IsMatch n out.new }
-        ensures at_ports { AreAtPorts p.new }
+        ensures decided { IsDecidedBy (moves_named self.old) (decision_named self.old) n rounds slot rows.now p.old
+            (record { matched = out.new; numbers = result; places = p.new }) }
     {
+        let scratch = &mut self.scratch;
         match self.name {
-            SchedulerName::Islip => decide_in(n, rounds, slot, rows, p, out, &mut self.scratch),
-            SchedulerName::Firm => decide_firm(n, rounds, slot, rows, p, out),
-            SchedulerName::Rrm => decide_rrm(n, rounds, slot, rows, p, out),
+            SchedulerName::Islip => decide_in(n, rounds, slot, rows, p, out, scratch),
+            SchedulerName::Firm => decide_firm_in(n, rounds, slot, rows, p, out, scratch),
+            SchedulerName::Rrm => decide_rrm_in(n, rounds, slot, rows, p, out, scratch),
+        }
+    }
+
+    /// Decides the slot as `decide` does, of rows that the caller keeps by columns. Takes no memory.
+    pub fn decide_over(
+        &mut self,
+        n: u32,
+        rounds: u32,
+        slot: u32,
+        columns: &Columns,
+        p: &mut Pointers,
+        out: &mut Match,
+    ) -> RoundsUsed
+        requires { CanDecide n rounds columns.now p.old out.old }
+        ensures name { self.new ≡ self.old }
+        ensures decided { IsDecidedBy (moves_named self.old) (decision_named self.old) n rounds slot columns.now p.old
+            (record { matched = out.new; numbers = result; places = p.new }) }
+    {
+        let held = &mut self.scratch;
+        match self.name {
+            SchedulerName::Islip => decide_over(n, rounds, slot, columns, p, out, held),
+            SchedulerName::Firm => decide_firm_over(n, rounds, slot, columns, p, out, held),
+            SchedulerName::Rrm => decide_rrm_over(n, rounds, slot, columns, p, out, held),
         }
     }
 }

@@ -6,3 +6,4 @@ pub mod PointersMoved
 pub mod Scheduling
 pub mod StarvingSlots
 pub mod Starved
+pub mod PassedSlots

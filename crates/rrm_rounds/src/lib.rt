@@ -8,4 +8,4 @@
 pub mod laws;
 mod slot;
 
-pub use slot::decide_rrm;
+pub use slot::{decide_rrm, decide_rrm_in, decide_rrm_over};

@@ -1,17 +1,15 @@
-ghost use Rattle.std.specs.Prelude.{◌≡◌, ℕ, ◌<◌, ◌≤◌, length, slice_index};
-ghost use Rattle.rotating_pick.specs.PortSets.{Has};
-ghost use Rattle.slot_match.specs.Rows.{AreWithin};
-ghost use Rattle.slot_match.specs.Matches.{IsMatch, IsMaximal};
+ghost use Rattle.std.specs.Prelude.{◌≡◌, ◌≤◌};
 ghost use Rattle.pointer_state.specs.Places.{AreAtPorts};
-ghost use Rattle.eslip_rounds.specs.Refusals.{Tells};
-ghost use Rattle.rrm_rounds.specs.Slots.{IsRrmSlot};
+ghost use Rattle.eslip_rounds.specs.Calls.{CanDecide, IsDecidedBy};
+ghost use Rattle.eslip_rounds.specs.Refusals.{Tells, AreToldWithin};
+ghost use Rattle.rrm_rounds.specs.Slots.{AreMovedByRrm};
 ghost use Rattle.rrm_rounds.specs.SlotSteps.{AreBeyond};
 ghost use Rattle.rrm_rounds.specs.Decisions.{rrm_decision};
 
-use eslip_rounds::{Refused, decide_with_refused};
+use eslip_rounds::{Columns, Refused, Scratch, decide_over_with_refused, decide_with_refused};
 use islip_rounds::RoundsUsed;
 use pointer_state::Pointers;
-use rotating_pick::{LEVELS, MAX_PORTS, MAX_ROUNDS, lowest, next, without};
+use rotating_pick::{MAX_PORTS, lowest, next, without};
 use slot_match::{Match, Row};
 
 /// Decides slot number `slot` of a switch of `n` ports in `rounds` rounds, each from 1 to 64, by round-robin
@@ -25,27 +23,49 @@ pub fn decide_rrm(
     p: &mut Pointers,
     out: &mut Match,
 ) -> RoundsUsed
-    requires some { 0 < n }
-    requires size { n ≤ MAX_PORTS }
-    requires rounds_some { 0 < rounds }
-    requires rounds_few { rounds ≤ MAX_ROUNDS }
-    requires rows { AreWithin n rows.now }
-    requires pointers { p.old.ports ≡ n }
-    requires matched { length out.old ≡ n }
-    ensures slot { IsRrmSlot n rounds slot rows.now p.old (record { matched = out.new; numbers = result; places = p.new }) }
+    requires { CanDecide n rounds rows.now p.old out.old }
+    ensures { IsDecidedBy AreMovedByRrm rrm_decision n rounds slot rows.now p.old (record { matched = out.new; numbers = result; places = p.new }) }
+{
+    let mut scratch = Scratch::new();
+    decide_rrm_in(n, rounds, slot, rows, p, out, &mut scratch)
+}
 
-    // The same as one value: a slot leaves no choice.
-    ensures decision { record { matched = out.new; numbers = result; places = p.new } ≡ rrm_decision n rounds slot rows.now p.old }
-    ensures whole { IsMatch n out.new }
-    ensures at_ports { AreAtPorts p.new }
-
-    // The match is maximal where the last round of all added nothing, and where there are n rounds.
-    ensures unused { result.last_added ≡ 0 → IsMaximal n rows.now out.new }
-    ensures enough { n ≤ rounds → IsMaximal n rows.now out.new }
+/// Decides the slot as [`decide_rrm`] does, and works in `scratch`, which one who decides slot after slot keeps. Takes
+/// no memory.
+pub fn decide_rrm_in(
+    n: u32,
+    rounds: u32,
+    slot: u32,
+    rows: &[Row],
+    p: &mut Pointers,
+    out: &mut Match,
+    scratch: &mut Scratch,
+) -> RoundsUsed
+    requires { CanDecide n rounds rows.now p.old out.old }
+    ensures { IsDecidedBy AreMovedByRrm rrm_decision n rounds slot rows.now p.old (record { matched = out.new; numbers = result; places = p.new }) }
 {
     prove!(p.ports() == n);
-    let (numbers, refused) = decide_with_refused(n, rounds, slot, rows, p, out);
+    let (numbers, refused) = decide_with_refused(n, rounds, slot, rows, p, out, scratch);
     pass(n, &refused, p);
+    numbers
+}
+
+/// Decides the slot as [`decide_rrm_in`] does, of rows that the caller keeps by columns. Takes no memory.
+pub fn decide_rrm_over(
+    n: u32,
+    rounds: u32,
+    slot: u32,
+    columns: &Columns,
+    p: &mut Pointers,
+    out: &mut Match,
+    scratch: &mut Scratch,
+) -> RoundsUsed
+    requires { CanDecide n rounds columns.now p.old out.old }
+    ensures { IsDecidedBy AreMovedByRrm rrm_decision n rounds slot columns.now p.old (record { matched = out.new; numbers = result; places = p.new }) }
+{
+    prove!(p.ports() == n);
+    let (numbers, told) = decide_over_with_refused(n, rounds, slot, columns, p, out, scratch);
+    pass(n, &told, p);
     numbers
 }
 
@@ -54,9 +74,7 @@ fn pass(n: u32, refused: &Refused, p: &mut Pointers)
     requires size { n ≤ MAX_PORTS }
     requires at_ports { AreAtPorts p.old }
     requires ports { p.old.ports ≡ n }
-    requires outputs { (j : ℕ) → Has refused.now.outputs j → j < n }
-    requires inputs { (j : ℕ) → Has refused.now.outputs j → slice_index refused.now.inputs j < n }
-    requires levels { (j : ℕ) → Has refused.now.outputs j → slice_index refused.now.levels j < LEVELS }
+    requires refused { AreToldWithin n refused.now }
     ensures passed { AreBeyond n (Tells refused.now) p.old p.new }
     ensures at_ports { AreAtPorts p.new }
 {

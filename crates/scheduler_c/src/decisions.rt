@@ -1,8 +1,9 @@
-ghost use Rattle.std.specs.Prelude.{◌≡◌, ◌<◌, ◌≤◌, ◌↔◌, ◌⊎◌, length};
+ghost use Rattle.std.specs.Prelude.{◌≡◌, ◌≤◌, ◌↔◌, ◌⊎◌, length};
 ghost use Rattle.slot_match.specs.Rows.{AreWithin};
 ghost use Rattle.slot_match.specs.Matches.{IsMatch, IsMaximal};
 ghost use Rattle.pointer_state.specs.Places.{AreAtPorts};
 ghost use Rattle.pointer_state.specs.CallerTables.{AreInRange, places_from};
+ghost use Rattle.eslip_rounds.specs.Calls.{CanDecide};
 ghost use Rattle.scheduler_c.specs.Words.{IsSize};
 ghost use Rattle.scheduler_c.specs.Numbers.{numbers_from};
 ghost use Rattle.scheduler_c.specs.Feeds.{AreFeeds, matched_from};
@@ -14,11 +15,10 @@ use crate::rows::are_rows;
 use crate::status::{DONE, REFUSED};
 use crate::words::{RoundsWords, is_size, rounds_words};
 use eslip_rounds::{Scratch, decide_in};
-use firm_rounds::decide_firm;
+use firm_rounds::decide_firm_in;
 use islip_rounds::RoundsUsed;
 use pointer_state::{PointerTables, Pointers};
-use rotating_pick::{MAX_PORTS, MAX_ROUNDS};
-use rrm_rounds::decide_rrm;
+use rrm_rounds::decide_rrm_in;
 use scheduler_names::SchedulerName;
 use slot_match::{Match, Row};
 
@@ -107,13 +107,7 @@ fn decide_slot(
     scratch: &mut Scratch,
     out: &mut Match,
 ) -> RoundsUsed
-    requires some { 0 < n }
-    requires size { n ≤ MAX_PORTS }
-    requires rounds_some { 0 < rounds }
-    requires rounds_few { rounds ≤ MAX_ROUNDS }
-    requires rows { AreWithin n rows.now }
-    requires pointers { p.old.ports ≡ n }
-    requires matched { length out.old ≡ n }
+    requires { CanDecide n rounds rows.now p.old out.old }
     ensures slot { IsSlotUnder scheduler n rounds slot rows.now p.old (record { matched = out.new; numbers = result; places = p.new }) }
     ensures whole { IsMatch n out.new }
     ensures at_ports { AreAtPorts p.new }
@@ -123,7 +117,7 @@ fn decide_slot(
 {
     match scheduler {
         SchedulerName::Islip => decide_in(n, rounds, slot, rows, p, out, scratch),
-        SchedulerName::Firm => decide_firm(n, rounds, slot, rows, p, out),
-        SchedulerName::Rrm => decide_rrm(n, rounds, slot, rows, p, out),
+        SchedulerName::Firm => decide_firm_in(n, rounds, slot, rows, p, out, scratch),
+        SchedulerName::Rrm => decide_rrm_in(n, rounds, slot, rows, p, out, scratch),
     }
 }

@@ -34,7 +34,7 @@ loop-place-preserved c = λ scheduler plan slot are rows named.
     ∙ ap (λ (x : InputValue). Some x) (sym c.index-inputs-place.is) in
     let here : c.post_of.result ≡ posts_under scheduler plan place slot =
     c.post_of.ensures (parts_under scheduler plan place slot) (are.served place input at)
-    (row-at inputs c.args.rows.now place input _ rows inside ∙ ap row_in (sym c.index-inputs-place.is))
+    (row-at inputs c.args.rows.now rows place input _ inside ∙ ap row_in (sym c.index-inputs-place.is))
     (name_of_it scheduler plan slot inputs are c.args.names.now named place input at)
     ∙ post_of_it scheduler plan slot inputs are c.args.names.now named place input at in
     each-more (λ (i : ℕ) (post : Post). post ≡ posts_under scheduler plan i slot) place c.loop-place.posts c.post_of.result within

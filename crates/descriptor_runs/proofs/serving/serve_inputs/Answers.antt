@@ -10,12 +10,12 @@ use Rattle.run_laws.specs.Runs.{ports_of, parts_under}
 use Rattle.slot_records.specs.Slots.{granted_name}
 use Rattle.descriptor_runs.specs.InputSteps.{InputValue, HasServed, row_in}
 use Rattle.descriptor_runs.specs.SwitchSteps.{AreInputs, AreGranted, name_by}
-use Rattle.descriptor_runs.proofs.InputPorts.{count-inputs, plan-of, row-at, rows-set, each-more}
+use Rattle.descriptor_runs.proofs.InputPorts.{count-inputs, plan-of, row-there, rows-set, each-more}
 use Rattle.descriptor_runs.proofs.Granting.{may-serve, served-next, name-granted, names-next}
 use Rattle.descriptor_runs.proofs.serving.serve_inputs.Goals as goal
 
-pub serve_input-requires : goal.serve_input-requires
-serve_input-requires c =
+pub serve_input-requires-clause-served : goal.serve_input-requires-clause-served
+serve_input-requires-clause-served c =
     let (scheduler, plan, t, scheduling, good, are, rows, parts) = c.requires in
     let at = c.loop-place in
     let k = at.place in
@@ -33,6 +33,13 @@ serve_input-requires c =
           (may-serve scheduler scheduling plan good t k input in_port (plan-of plan c.args.inputs.now are.plans k input old) was),
     )
 
+pub serve_input-requires-clause-row : goal.serve_input-requires-clause-row
+serve_input-requires-clause-row c =
+    let at = c.loop-place in
+    let test = c.loop-place-test.true in
+    let long = at.invariant.count in
+    row-there at.inputs at.columns at.invariant.rows at.place c.index-inputs-place.result (omega arith)
+
 pub loop-place-preserved : goal.loop-place-preserved
 loop-place-preserved c =
     let at = c.loop-place in
@@ -41,7 +48,6 @@ loop-place-preserved c =
     let input = get_or at.inputs k d in
     let part = get_or c.args.parts.now k None in
     let new = c.serve_input.new.input in
-    let row = c.serve_input.new.row in
     let name = c.serve_input.result in
     let test = c.loop-place-test.true in
     let long = at.invariant.count in
@@ -49,12 +55,10 @@ loop-place-preserved c =
     let old : slice_get c.args.inputs.now k ≡ Some input = sym (at.invariant.later k (omega arith)) ∙ slice_get-get_or at.inputs k d inside in
     record {
       count = length-set at.inputs k new ∙ long;
-      rows_long = length-set at.rows k row ∙ at.invariant.rows_long;
       names_long = length-set at.names k name ∙ at.invariant.names_long;
       plans = map-set_same (λ (x : InputValue). x.plan) at.inputs k new d c.serve_input.ensures.plan ∙ at.invariant.plans;
       later = λ i after. get-set_other at.inputs k i new (λ e. absurd (omega arith)) ∙ at.invariant.later i (omega arith);
-      rows = λ same. rows-set at.inputs at.rows k new row (at.invariant.rows same)
-          (c.serve_input.ensures.row (row-at at.inputs at.rows k d _ (at.invariant.rows same) inside));
+      rows = c.serve_input.ensures.row ∙ rows-set at.inputs at.columns at.invariant.rows k new;
       served = λ scheduler plan t scheduling good are parts.
           let count = count-inputs plan c.args.inputs.now are.plans in
           let in_port : k < ports_of plan = omega arith in
@@ -96,5 +100,5 @@ returns c = record {
       } in
       let granted : AreGranted scheduler plan t at.names =
       λ i inside. at.invariant.named scheduler plan t scheduling good were parts i (omega arith) in
-      (are, at.invariant.rows rows, granted, names-next scheduler scheduling plan good t c.args.inputs.now at.names were granted);
+      (are, at.invariant.rows, granted, names-next scheduler scheduling plan good t c.args.inputs.now at.names were granted);
 }

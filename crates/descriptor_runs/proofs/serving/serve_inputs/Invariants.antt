@@ -11,11 +11,10 @@ use Rattle.descriptor_runs.proofs.serving.serve_inputs.Given as goal
 abbrev pub invariant-loop-place : goal.invariant-loop-place
 invariant-loop-place l = record {
   count : length l.inputs ≡ length l.fn.inputs;
-  rows_long : length l.rows ≡ length l.fn.rows;
   names_long : length l.names ≡ 64;
   plans : map (λ (input : InputValue). input.plan) l.inputs ≡ map (λ (input : InputValue). input.plan) l.fn.inputs;
   later : (i : ℕ) → l.place ≤ i → slice_get l.inputs i ≡ slice_get l.fn.inputs i;
-  rows : l.fn.rows ≡ map row_in l.fn.inputs → l.rows ≡ map row_in l.inputs;
+  rows : l.columns ≡ map row_in l.inputs;
   served : (scheduler : Scheduler) (plan : SwitchPlan) (t : ℕ) → IsScheduler scheduler → IsGood plan → AreInputs scheduler plan t true l.fn.inputs
       → AreParts scheduler plan t l.parts → (i : ℕ) (input : InputValue) → i < l.place → slice_get l.inputs i ≡ Some input
       → HasServed input (parts_under scheduler plan i (t + 1)) false;

@@ -1,4 +1,4 @@
-use Rattle.std.proofs.Common.{◌≡◌, ◌∙◌, ◌+◌, ◌<◌, nat_lt, true, false, Some, length, map, get_or, sym, ap, subst, arith, get_or-set_same}
+use Rattle.std.proofs.Common.{◌≡◌, ◌∙◌, ◌+◌, ◌<◌, nat_lt, true, false, Some, length, map, get_or, set, sym, ap, subst, arith, get_or-set_same}
 use Rattle.std.specs.Prelude.{slice_get}
 use Rattle.std.proofs.lemmas.List.{length-set}
 use Rattle.std.proofs.lemmas.Option.{slice_get-get_or, slice_get_within}
@@ -12,12 +12,12 @@ use Rattle.run_laws.specs.Runs.{ports_of, card_at, parts_under}
 use Rattle.run_laws.proofs.Base.{served-length}
 use Rattle.descriptor_runs.specs.InputSteps.{InputValue, HasServed, row_in}
 use Rattle.descriptor_runs.specs.SwitchSteps.{AreInputs, IsActivityTo, activity_with}
-use Rattle.descriptor_runs.proofs.InputPorts.{count-inputs, count-rows, plan-of, row-at, rows-set, each-more}
+use Rattle.descriptor_runs.proofs.InputPorts.{count-inputs, plan-of, row-there, row-at, rows-set, each-more}
 use Rattle.descriptor_runs.proofs.Letting.{goes_on-more, goes_on-at_all, arrived-more, arrived-empty, all-rows}
 use Rattle.descriptor_runs.proofs.switch.take_in.Goals as goal
 
-pub let_in-requires : goal.let_in-requires
-let_in-requires c =
+pub let_in-requires-clause-served : goal.let_in-requires-clause-served
+let_in-requires-clause-served c =
     let (scheduler, plan, scheduling, good, countable, below, are, rows) = c.requires in
     let at = c.loop-place in
     let k = at.place in
@@ -34,6 +34,13 @@ let_in-requires c =
       omega arith,
     )
 
+pub let_in-requires-clause-row : goal.let_in-requires-clause-row
+let_in-requires-clause-row c =
+    let at = c.loop-place in
+    let test = c.loop-place-test.true in
+    let long = at.invariant.count in
+    row-there at.inputs at.columns at.invariant.rows at.place c.index-inputs-place.result (omega arith)
+
 pub loop-place-preserved : goal.loop-place-preserved
 loop-place-preserved c =
     let at = c.loop-place in
@@ -42,7 +49,7 @@ loop-place-preserved c =
     let d = c.index-inputs-place.result in
     let input = get_or at.inputs k d in
     let new = c.let_in.new.input in
-    let row = c.let_in.new.row in
+    let inputs = set at.inputs k new in
     let test = c.loop-place-test.true in
     let long = at.invariant.count in
     let inside : k < length at.inputs = omega arith in
@@ -50,29 +57,26 @@ loop-place-preserved c =
     let here : (scheduler : Scheduler) (plan : SwitchPlan) → AreInputs scheduler plan t false c.args.inputs.now
     → HasServed new (parts_under scheduler plan k t) true = λ scheduler plan were.
     c.let_in.ensures.arrived (parts_under scheduler plan k t) (were.served k input old) (sym (served-length scheduler plan k t)) in
-    let row_now : c.args.rows.now ≡ map row_in c.args.inputs.now → row ≡ row_in new =
-    λ same. c.let_in.ensures.row (row-at at.inputs at.rows k d _ (at.invariant.rows same) inside) in
-    let after : c.args.rows.now ≡ map row_in c.args.inputs.now
-    → c.with-activity.result ≡ activity_with at.activity (is_empty (row_in new)) (nat_lt new.next (length new.plan.packets)) = λ same.
-    let listed = count-rows at.inputs at.rows (at.invariant.rows same) in
-    let in_rows : k < length at.rows = omega arith in
+    let rows : c.let_in.new.columns ≡ map row_in inputs = c.let_in.ensures.row ∙ rows-set at.inputs at.columns at.invariant.rows k new in
+    let set_long = length-set at.inputs k new in
+    let after : c.with-activity.result ≡ activity_with at.activity (is_empty (row_in new)) (nat_lt new.next (length new.plan.packets)) =
     c.with-activity.ensures
-    ∙ (ap (λ (r : Row). activity_with at.activity (is_empty r) c.has_next.result) (get_or-set_same at.rows k row _ in_rows ∙ row_now same)
+    ∙ (ap (λ (r : Row). activity_with at.activity (is_empty r) c.has_next.result)
+    (row-at inputs c.rows.result.now (c.rows.ensures ∙ rows) k d _ (omega arith) ∙ ap row_in (get_or-set_same at.inputs k new d inside))
     ∙ ap (activity_with at.activity (is_empty (row_in new)))
     (c.has_next.ensures ∙ ap (λ (x : InputValue). nat_lt x.next (length x.plan.packets)) (get_or-set_same at.inputs k new _ inside))) in
     record {
-      count = length-set at.inputs k new ∙ long;
-      rows_long = length-set at.rows k row ∙ at.invariant.rows_long;
+      count = set_long ∙ long;
       plans = map-set_same (λ (x : InputValue). x.plan) at.inputs k new d c.let_in.ensures.plan ∙ at.invariant.plans;
       later = λ i after. get-set_other at.inputs k i new (λ e. absurd (omega arith)) ∙ at.invariant.later i (omega arith);
-      rows = λ same. rows-set at.inputs at.rows k new row (at.invariant.rows same) (row_now same);
+      rows = rows;
       arrived = λ scheduler plan were. each-more (λ i (x : InputValue). HasServed x (parts_under scheduler plan i t) true) k at.inputs new inside
           (at.invariant.arrived scheduler plan were) (here scheduler plan were);
-      activity = λ scheduler plan were same.
+      activity = λ scheduler plan were.
           let own : new.plan ≡ card_at plan k = c.let_in.ensures.plan ∙ plan-of plan c.args.inputs.now were.plans k input old in
-          subst (IsActivityTo scheduler plan t (k + 1)) (sym (after same))
+          subst (IsActivityTo scheduler plan t (k + 1)) (sym after)
           (goes_on-more scheduler plan t k at.activity (is_empty (row_in new)) (nat_lt new.next (length new.plan.packets))
-          (at.invariant.activity scheduler plan were same)
+          (at.invariant.activity scheduler plan were)
           (arrived-more scheduler plan t k new own (here scheduler plan were)) (arrived-empty scheduler plan t k new own (here scheduler plan were)));
     }
 
@@ -86,8 +90,7 @@ returns-clause-inputs c = λ scheduler plan scheduling good were rows.
       served = λ i input mine. let inside = slice_get_within at.inputs i input mine in let long = at.invariant.count in
           at.invariant.arrived scheduler plan were i input (omega arith) mine;
     } in
-    let rows_are = at.invariant.rows rows in
-    (are, rows_are, rows_are ∙ all-rows scheduler plan c.args.slot at.inputs are)
+    (are, at.invariant.rows, at.invariant.rows ∙ all-rows scheduler plan c.args.slot at.inputs are)
 
 pub returns-clause-activity : goal.returns-clause-activity
 returns-clause-activity c = λ scheduler plan scheduling good were rows.
@@ -97,4 +100,4 @@ returns-clause-activity c = λ scheduler plan scheduling good were rows.
     let count = count-inputs plan c.args.inputs.now were.plans in
     let all : at.place ≡ ports_of plan = omega arith in
     goes_on-at_all scheduler plan c.args.slot at.activity
-    (subst (λ k. IsActivityTo scheduler plan c.args.slot k at.activity) all (at.invariant.activity scheduler plan were rows))
+    (subst (λ k. IsActivityTo scheduler plan c.args.slot k at.activity) all (at.invariant.activity scheduler plan were))

@@ -10,12 +10,11 @@ use Rattle.descriptor_runs.proofs.switch.take_in.Given as goal
 abbrev pub invariant-loop-place : goal.invariant-loop-place
 invariant-loop-place l = record {
   count : length l.inputs ≡ length l.fn.inputs;
-  rows_long : length l.rows ≡ length l.fn.rows;
   plans : map (λ (input : InputValue). input.plan) l.inputs ≡ map (λ (input : InputValue). input.plan) l.fn.inputs;
   later : (i : ℕ) → l.place ≤ i → slice_get l.inputs i ≡ slice_get l.fn.inputs i;
-  rows : l.fn.rows ≡ map row_in l.fn.inputs → l.rows ≡ map row_in l.inputs;
+  rows : l.columns ≡ map row_in l.inputs;
   arrived : (scheduler : Scheduler) (plan : SwitchPlan) → AreInputs scheduler plan l.slot false l.fn.inputs → (i : ℕ) (input : InputValue) → i < l.place
       → slice_get l.inputs i ≡ Some input → HasServed input (parts_under scheduler plan i l.slot) true;
-  activity : (scheduler : Scheduler) (plan : SwitchPlan) → AreInputs scheduler plan l.slot false l.fn.inputs → l.fn.rows ≡ map row_in l.fn.inputs
+  activity : (scheduler : Scheduler) (plan : SwitchPlan) → AreInputs scheduler plan l.slot false l.fn.inputs
       → IsActivityTo scheduler plan l.slot l.place l.activity;
 }

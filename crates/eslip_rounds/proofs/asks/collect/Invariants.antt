@@ -5,6 +5,6 @@ use Rattle.eslip_rounds.proofs.asks.collect.Given as goal
 
 abbrev pub invariant-loop-i : goal.invariant-loop-i
 invariant-loop-i l = record {
-  long : length l.sets ≡ MAX_PORTS;
-  sets : (k : ℕ) → k < l.i → slice_index l.sets k ≡ slice_index (sets_of (row_of l.rows k) l.kind) l.level;
+  long : length l.collected ≡ MAX_PORTS;
+  sets : (k : ℕ) → k < l.i → slice_index l.collected k ≡ slice_index (sets_of (row_of l.rows k) l.kind) l.level;
 }

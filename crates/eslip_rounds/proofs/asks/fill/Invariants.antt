@@ -1,5 +1,5 @@
-use Rattle.eslip_rounds.proofs.Columns.{AreDone}
+use Rattle.eslip_rounds.proofs.Filling.{AreFilled}
 use Rattle.eslip_rounds.proofs.asks.fill.Given as goal
 
-abbrev pub invariant-loop-rank : goal.invariant-loop-rank
-invariant-loop-rank l = AreDone l.n l.rank l.first_kind l.rows l.columns l.ranks
+abbrev pub invariant-loop-set : goal.invariant-loop-set
+invariant-loop-set l = AreFilled l.n l.set l.rows l.outputs l.columns

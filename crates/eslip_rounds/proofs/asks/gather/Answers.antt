@@ -7,7 +7,7 @@ use Rattle.eslip_rounds.proofs.asks.gather.Goals as goal
 pub transpose-requires-clause-among : goal.transpose-requires-clause-among
 transpose-requires-clause-among c k d below =
     let n = c.args.n in
-    let sets = c.collect.new.sets in
+    let sets = c.collect.new.collected in
     let k_in : k < n = omega (arith, length-take n sets) in
     let inside : k < length sets = omega (arith, length-take n sets) in
     let same : slice_index_or (take n sets) k d ≡ slice_index sets k = get_or-take n sets k d k_in ∙ get_or_default sets k d 0 inside in

@@ -6,8 +6,8 @@ use Rattle.eslip_rounds.proofs.grants.chosen.Given as goal
 
 abbrev pub invariant-loop-rank : goal.invariant-loop-rank
 invariant-loop-rank l = record {
-  within : (r : ℕ) → Has l.rest r → Has l.asks.ranks r;
-  none : (r i : ℕ) → r < RANKS → (Has l.rest r → ⊥) → AsksAt l.asks l.ready l.j r i → ⊥;
+  within : (r : ℕ) → Has l.rest r → Has l.ready.ranks r;
+  none : (r i : ℕ) → r < RANKS → (Has l.rest r → ⊥) → AsksAt l.first_kind l.asks l.ready l.j r i → ⊥;
 }
 
 abbrev pub decreases-loop-rank : goal.decreases-loop-rank

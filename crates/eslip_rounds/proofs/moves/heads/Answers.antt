@@ -1,37 +1,35 @@
-use Rattle.std.proofs.Common.{ℕ, inl, inr, arith, sym, subst}
-use Rattle.std.proofs.lemmas.Bool.{cases_eq}
-use Rattle.slot_match.specs.Rows.{HasHead}
-use Rattle.eslip_rounds.proofs.Deciding.{HasHead-decides}
+use Rattle.std.proofs.Common.{◌≡◌, ℕ, ◌↔◌, sym, arith, slice_index}
+use Rattle.rotating_pick.specs.declared.kinds.Kind.TheVariants.{Uni, Multi}
+use Rattle.slot_match.specs.Rows.{Names, row_of}
+use Rattle.slot_match.proofs.Sets.{zero-has}
+use Rattle.eslip_rounds.specs.RankSteps.{level_at, kind_at}
+use Rattle.eslip_rounds.specs.Steps.{IsUsed}
+use Rattle.eslip_rounds.proofs.Filling.{Names-at}
+use Rattle.eslip_rounds.proofs.RankLemmas.{kind_at-odd}
 use Rattle.eslip_rounds.proofs.moves.heads.Goals as goal
-use Rattle.eslip_rounds.proofs.moves.heads.Goals.{then-not-is_empty, else-not-is_empty}
 
-pub loop-i-preserved : goal.loop-i-preserved
-loop-i-preserved c x =
-    let said = c.loop-i.invariant x in
-    let P : ℕ → Type 0 = HasHead c.args.rows.now c.args.level in
-    elim c.if-not-is_empty.branch [
-      | then-not-is_empty w ↦ rw w.posted-is (
-        λ h. elim ((w.with-posted.ensures x).0 h) [
-          | inl same ↦ (
-            omega arith,
-            subst P (sym same) (elim (HasHead-decides c.args.n c.args.rows.now c.args.level c.loop-i.i c.requires.rows c.loop-i-test.true) [
-              | inl
-                  head ↦ head
-              | inr none ↦ absurd (let empty = c.is_empty-in-loop-i.ensures.members.1 (λ j has. none (j, has)) in cc)
-            ]),
-          )
-          | inr old ↦ (let below = (said.0 old).0 in omega arith, (said.0 old).1)
-        ],
-        λ p. elim (cases_eq x c.loop-i.i) [
-          | inl same ↦ (w.with-posted.ensures x).1 (inl same)
-          | inr other ↦ (w.with-posted.ensures x).1 (inr (said.1 (let below = p.0 in omega arith, p.1)))
-        ],
-      )
-      | else-not-is_empty w ↦ rw w.posted-is (
-        λ h. (let below = (said.0 h).0 in omega arith, (said.0 h).1),
-        λ p. elim (cases_eq x c.loop-i.i) [
-          | inl same ↦ let here = subst P same p.1 in absurd (c.is_empty-in-loop-i.ensures.members.0 w.if-not-is_empty.false here.0 here.1)
-          | inr other ↦ said.1 (let below = p.0 in omega arith, p.1)
-        ],
-      )
-    ]
+pub returns : goal.returns
+returns c i =
+    let rows = c.args.rows.now in
+    let asks = c.args.asks.now in
+    let are = c.requires.asks in
+    let set = c.set_of_heads-set.result in
+    let set_is = c.set_of_heads-set.ensures.value in
+    let set_in = c.set_of_heads-set.ensures.set_in in
+    let level_is : c.args.level ≡ level_at set = omega arith in
+    let kind_is : Multi ≡ kind_at Uni set = sym (kind_at-odd Uni set (omega arith)) in
+    let named : (j : ℕ) → Names (row_of rows i) c.args.level Multi j ↔ Names (row_of rows i) (level_at set) (kind_at Uni set) j =
+    λ j. Names-at (row_of rows i) set c.args.level j Multi level_is kind_is in
+    let all = c.joined.ensures i in (
+      λ has.
+          let p = all.0 has in
+          let used : IsUsed asks set = λ none. zero-has (slice_index asks.outputs set) p.0 none p.1 in
+          let q = (are.columns set i p.0 set_in used (are.outputs_in set p.0 set_in p.1)).0 p.2 in
+          (q.0, (p.0, (named p.0).1 q.1)),
+      λ p.
+          let j = p.1.0 in
+          let there = (named j).0 p.1.1 in
+          let output = are.outputs set i j set_in p.0 there in
+          let used : IsUsed asks set = λ none. zero-has (slice_index asks.outputs set) j none output in
+          all.1 (j, output, (are.columns set i j set_in used (are.outputs_in set j set_in output)).1 (p.0, there)),
+    )

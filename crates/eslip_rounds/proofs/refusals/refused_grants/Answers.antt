@@ -1,24 +1,28 @@
 use Rattle.std.proofs.Common.{ℕ, ◌<◌, refl, subst, inl, inr}
 use Rattle.std.proofs.lemmas.Bool.{cases_eq}
 use Rattle.rotating_pick.specs.PortSets.{Has}
+use Rattle.rotating_pick.proofs.Bits.{no_member-zero}
 use Rattle.slot_match.proofs.Sets.{zero-has}
-use Rattle.eslip_rounds.specs.Steps.{GrantsUnicast}
+use Rattle.eslip_rounds.specs.Steps.{IsNamed, GrantsUnicast}
+use Rattle.slot_match.specs.Matches.{unmatched}
+use Rattle.eslip_rounds.proofs.Offering.{KeepsToPorts-ready}
 use Rattle.eslip_rounds.proofs.refusals.refused_grants.Goals as goal
 
 pub chosen-choice-requires-clause-ready : goal.chosen-choice-requires-clause-ready
-chosen-choice-requires-clause-ready c rank i rank_in has = ((c.all_ready-ready.ensures c.args.first_kind rank i rank_in).0 has).0
+chosen-choice-requires-clause-ready c =
+    KeepsToPorts-ready c.args.n c.args.first_kind c.args.asks.now (unmatched c.args.n) c.all_ready-ready.result c.all_ready-ready.ensures
 
 pub loop-j-init : goal.loop-j-init
 loop-j-init c =
-    let asked : (y : ℕ) → Has c.intersection-rest.result y → ((y < c.args.n) × (Has c.args.first_outputs y → ⊥)) × Has c.args.asks.now.outputs y = λ y has.
+    let asked : (y : ℕ) → Has c.intersection-rest.result y → ((y < c.args.n) × (Has c.args.first_outputs y → ⊥)) × IsNamed c.args.asks.now y = λ y has.
     let both = (c.intersection-rest.ensures y).0 has in
     let first = (c.difference-left.ensures y).0 both.0 in
-    (((c.all.ensures.members y).0 first.0, first.1), both.1) in
+    (((c.all.ensures.members y).0 first.0, first.1), (c.named.ensures y).0 both.1) in
     record {
       left = asked;
       told = λ i y level. (
-        λ tells. absurd (zero-has _ y c.none_refused-refused.ensures tells.0),
-        λ p. absurd (p.0.1 ((c.intersection-rest.ensures y).1 ((c.difference-left.ensures y).1 ((c.all.ensures.members y).1 p.0.0.0.0, p.0.0.0.1), p.0.0.1))),
+        λ tells. absurd (no_member-zero y tells.0),
+        λ p. absurd (p.0.1 ((c.intersection-rest.ensures y).1 ((c.difference-left.ensures y).1 ((c.all.ensures.members y).1 p.0.0.0.0, p.0.0.0.1), (c.named.ensures y).1 p.0.0.1))),
       );
     }
 
@@ -62,7 +66,7 @@ returns c =
     let empty = c.in_default.ensures.none.0 refl in
     record {
       ready = c.all_ready-ready.result;
-      readies = c.all_ready-ready.ensures c.args.first_kind;
+      readies = c.all_ready-ready.ensures;
       told = λ i y level.
           let told = c.loop-j.invariant.told i y level in
           (λ tells. let p = told.0 tells in (p.0.0, p.1), λ p. told.1 ((p.0, zero-has c.loop-j.rest y empty), p.1));

@@ -11,6 +11,6 @@ abbrev pub invariant-loop-done : goal.invariant-loop-done
 invariant-loop-done l = record {
   whole : IsMatch l.n l.out;
   used : l.numbers.used ≤ l.done;
-  decided : (t : ℕ) (rows : List Row) → l.first_kind ≡ preferred t → AreAsks l.n l.first_kind rows l.asks
+  decided : (t : ℕ) (rows : List Row) → l.first_kind ≡ preferred t → AreAsks l.n rows l.asks
       → IsDecided l.n l.done t rows l.p l.out l.matched l.numbers l.first_outputs × IsSettled l.n t rows l.p l.out l.added;
 }

@@ -1,4 +1,4 @@
-use Rattle.std.proofs.Common.{◌≡◌, ◌∙◌, ◌<◌, ℕ, [], ◌∷◌, ◌++◌, ap, sym, arith, length, slice_index_or, slice_set}
+use Rattle.std.proofs.Common.{rules, ◌≡◌, ◌∙◌, ◌<◌, ℕ, [], ◌∷◌, ◌++◌, ap, sym, arith, length, slice_index_or, slice_set}
 use Rattle.std.proofs.lemmas.List.{length_push}
 use Rattle.std.proofs.Math.Seq.{get_or-append_seam, set-append_seam}
 use Rattle.slot_match.specs.Parts.{served_of}
@@ -23,13 +23,25 @@ posts_at-posts-requires c = rw c.deref.ensures.value (next_slot c.self.invariant
 pub push_reserved-requires : goal.push_reserved-requires
 push_reserved-requires c = (next_slot c.self.invariant c.self.view_is c.requires c.len-slot.ensures).match_room
 
-pub decide_in-numbers-requires-clause-rows : goal.decide_in-numbers-requires-clause-rows
-decide_in-numbers-requires-clause-rows c =
-    rw (c.put_rows.ensures.rows, c.posts_at-posts.ensures, c.deref.ensures.value)
-    (next_slot c.self.invariant c.self.view_is c.requires c.len-slot.ensures).within
-
-pub decide_in-numbers-requires-clause-pointers : goal.decide_in-numbers-requires-clause-pointers
-decide_in-numbers-requires-clause-pointers c = (next_slot c.self.invariant c.self.view_is c.requires c.len-slot.ensures).pointers
+pub decide_in-numbers-requires : goal.decide_in-numbers-requires
+decide_in-numbers-requires c =
+    let next = next_slot c.self.invariant c.self.view_is c.requires c.len-slot.ensures in
+    let s = c.self.inside in
+    let at_end : c.len-slot.result ≡ length s.matches.items = omega (arith, c.len-slot.ensures, s.matches.ok) in
+    let last = c.index_mut.result.now in
+    let new : last ≡ c.new.result = c.index_mut.ensures.value
+    ∙ ap (λ m. slice_index_or m c.len-slot.result last) c.push_reserved.ensures.items
+    ∙ ap (λ (k : ℕ). slice_index_or (s.matches.items ++ c.new.result ∷ []) k last) at_end
+    ∙ get_or-append_seam s.matches.items c.new.result [] last in
+    record {
+      some = search rules;
+      size = search rules;
+      rounds_some = search rules;
+      rounds_few = search rules;
+      within = rw (c.put_rows.ensures.rows, c.posts_at-posts.ensures, c.deref.ensures.value) next.within;
+      pointers = next.pointers;
+      matched = ap length new ∙ c.new.ensures.whole.count;
+    }
 
 pub push_reserved-requires-2 : goal.push_reserved-requires-2
 push_reserved-requires-2 c = (next_slot c.self.invariant c.self.view_is c.requires c.len-slot.ensures).number_room

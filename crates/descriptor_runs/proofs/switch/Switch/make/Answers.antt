@@ -46,18 +46,16 @@ returns c =
         decides = ap decision_named c.new.ensures;
         rounds = refl;
         nano = refl;
-        pointers = c.new-2.ensures.value ∙ ap places_at_first ports;
-        matched = c.new-3.ensures.whole.count ∙ ports;
+        pointers = c.new-3.ensures.value ∙ ap places_at_first ports;
+        matched = c.new-4.ensures.whole.count ∙ ports;
         posts = sym c.in_ok-posts.posts.ok.0 ∙ (c.in_ok-posts.ensures.len ∙ ports);
         meter_ports = made.0 ∙ ports;
         meter_count = made.1.count;
         noted = made.1;
       };
       inputs = record { plans = c.in_ok-inputs_of.ensures.plans; served = c.in_ok-inputs_of.ensures.served };
-      rows = c.in_ok-rows.ensures.items_if_clones_equal (λ y same. same)
-          ∙ (ap (replicate c.len-ports.result) c.empty-2.ensures.value
-          ∙ (ap (λ n. replicate n empty_row) (ports ∙ sym (count-inputs plan inputs c.in_ok-inputs_of.ensures.plans))
-          ∙ new-rows inputs c.in_ok-inputs_of.ensures.served));
+      rows = c.new-2.ensures ∙ (ap (λ n. replicate n empty_row) (ports ∙ sym (count-inputs plan inputs c.in_ok-inputs_of.ensures.plans))
+          ∙ new-rows inputs c.in_ok-inputs_of.ensures.served);
       names = λ i inside.
           subst (IsNameOf (card_at plan i) None) (sym (ap (λ names. slice_index_or names i None) c.no_names.ensures ∙ get_or-same None MAX_PORTS i)) refl;
       outputs = record {

@@ -15,10 +15,10 @@ note-requires g c =
     let posts = c.put_posts.new.posts in
     let are : posts ≡ map (λ i. posts_under scheduler plan i t) (range_with_len 0 (ports_of plan)) =
     c.put_posts.ensures scheduler plan t scheduling good (subst (AreInputs scheduler plan t true) (sym c.deref.ensures.value) is.inputs)
-    (c.deref-2.ensures.value ∙ (is.rows_are ∙ ap (map row_in) (sym c.deref.ensures.value))) is.names
+    (c.rows.ensures ∙ (is.rows_are ∙ ap (map row_in) (sym c.deref.ensures.value))) is.names
     (ap length c.deref_mut.ensures.value ∙ is.switch_is.posts) in
-    let again = is-run_slot scheduler scheduling plan good t switch is posts are c.deref-3.result.now
-    (c.deref-3.ensures.value ∙ posts-back scheduler scheduling plan good t switch is posts are) in
+    let again = is-run_slot scheduler scheduling plan good t switch is posts are c.deref-2.result.now
+    (c.deref-2.ensures.value ∙ posts-back scheduler scheduling plan good t switch is posts are) in
     (scheduler, plan, slots, scheduling, ends, below, noted, again)
 
 pub returns-clause-noted : goal.returns-clause-noted
@@ -28,9 +28,9 @@ returns-clause-noted g c = λ scheduler plan scheduling good is noted.
     let posts = c.put_posts.new.posts in
     let are : posts ≡ map (λ i. posts_under scheduler plan i t) (range_with_len 0 (ports_of plan)) =
     c.put_posts.ensures scheduler plan t scheduling good (subst (AreInputs scheduler plan t true) (sym c.deref.ensures.value) is.inputs)
-    (c.deref-2.ensures.value ∙ (is.rows_are ∙ ap (map row_in) (sym c.deref.ensures.value))) is.names
+    (c.rows.ensures ∙ (is.rows_are ∙ ap (map row_in) (sym c.deref.ensures.value))) is.names
     (ap length c.deref_mut.ensures.value ∙ is.switch_is.posts) in
-    let again = is-run_slot scheduler scheduling plan good t switch is posts are c.deref-3.result.now
-    (c.deref-3.ensures.value ∙ posts-back scheduler scheduling plan good t switch is posts are) in
+    let again = is-run_slot scheduler scheduling plan good t switch is posts are c.deref-2.result.now
+    (c.deref-2.ensures.value ∙ posts-back scheduler scheduling plan good t switch is posts are) in
     let after = with-posts scheduler scheduling plan good t switch is posts are in
     on_ok_weaker c.note.result (λ more. (after, more)) (c.note.ensures.noted scheduler plan noted again)

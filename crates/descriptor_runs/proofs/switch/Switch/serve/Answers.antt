@@ -7,14 +7,11 @@ feed_outputs-requires c =
     let switch = c.args.self.now in
     let (scheduler, plan, t, scheduling, good, countable, below, is) = c.requires in
     let given = c.deref_mut.result.now in
-    let lent = c.deref_mut-2.result.now in
     let same = c.deref_mut.ensures.value in
-    let same_rows = c.deref_mut-2.ensures.value in
     let inputs = c.serve_inputs.new.inputs in
-    let rows = c.serve_inputs.new.rows in
+    let rows = c.serve_inputs.new.columns in
     let names = c.serve_inputs.new.names in
     let long = c.serve_inputs.auto.inputs in
-    let rows_long = c.serve_inputs.auto.rows in
     let took = c.serve_inputs.ensures.served scheduler plan t scheduling good in (
       scheduler,
       plan,
@@ -23,13 +20,13 @@ feed_outputs-requires c =
       good,
       countable,
       below,
-      plans-served scheduler plan t switch is given lent same same_rows c.put_parts.new.parts c.put_parts.ensures.parts inputs rows names long
-          rows_long took c.deref.result.now c.deref.ensures.value,
-      names-granted scheduler plan t switch is given lent same same_rows c.put_parts.new.parts c.put_parts.ensures.parts inputs rows names long
-          rows_long took,
+      plans-served scheduler plan t switch is given same c.put_parts.new.parts c.put_parts.ensures.parts inputs rows names long
+          took c.deref.result.now c.deref.ensures.value,
+      names-granted scheduler plan t switch is given same c.put_parts.new.parts c.put_parts.ensures.parts inputs rows names long
+          took,
       is.matched,
       is.switch_is.nano,
-      outputs-given scheduler plan t switch is c.deref_mut-3.result.now c.deref_mut-3.ensures.value,
+      outputs-given scheduler plan t switch is c.deref_mut-2.result.now c.deref_mut-2.ensures.value,
     )
 
 pub returns : goal.returns
@@ -37,14 +34,11 @@ returns c = on_ok_weaker c.feed_outputs.result
     (λ fed scheduler plan t scheduling good is.
     let switch = c.args.self.now in
     let given = c.deref_mut.result.now in
-    let lent = c.deref_mut-2.result.now in
     let same = c.deref_mut.ensures.value in
-    let same_rows = c.deref_mut-2.ensures.value in
     let inputs = c.serve_inputs.new.inputs in
-    let rows = c.serve_inputs.new.rows in
+    let rows = c.serve_inputs.new.columns in
     let names = c.serve_inputs.new.names in
     let long = c.serve_inputs.auto.inputs in
-    let rows_long = c.serve_inputs.auto.rows in
     let took = c.serve_inputs.ensures.served scheduler plan t scheduling good in
     let parts = c.put_parts.new.parts in
     let put = c.put_parts.ensures.parts in
@@ -60,15 +54,15 @@ returns c = on_ok_weaker c.feed_outputs.result
         meter_count = is.switch_is.meter_count;
         noted = is.switch_is.noted;
       };
-      inputs = inputs-served scheduler plan t switch is given lent same same_rows parts put inputs rows names long rows_long took;
-      rows = rows-served scheduler plan t switch is given lent same same_rows parts put inputs rows names long rows_long took;
-      names = names-served scheduler plan t switch is given lent same same_rows parts put inputs rows names long rows_long took;
-      outputs = outputs-fed scheduler plan t switch is c.deref_mut-3.result.now c.deref_mut-3.ensures.value c.feed_outputs.new.outputs
+      inputs = inputs-served scheduler plan t switch is given same parts put inputs rows names long took;
+      rows = rows-served scheduler plan t switch is given same parts put inputs rows names long took;
+      names = names-served scheduler plan t switch is given same parts put inputs rows names long took;
+      outputs = outputs-fed scheduler plan t switch is c.deref_mut-2.result.now c.deref_mut-2.ensures.value c.feed_outputs.new.outputs
           c.feed_outputs.auto.outputs
           (fed scheduler plan t scheduling good
-          (plans-served scheduler plan t switch is given lent same same_rows parts put inputs rows names long rows_long took c.deref.result.now
+          (plans-served scheduler plan t switch is given same parts put inputs rows names long took c.deref.result.now
           c.deref.ensures.value)
-          (names-granted scheduler plan t switch is given lent same same_rows parts put inputs rows names long rows_long took)
-          is.matched is.switch_is.nano (outputs-given scheduler plan t switch is c.deref_mut-3.result.now c.deref_mut-3.ensures.value));
+          (names-granted scheduler plan t switch is given same parts put inputs rows names long took)
+          is.matched is.switch_is.nano (outputs-given scheduler plan t switch is c.deref_mut-2.result.now c.deref_mut-2.ensures.value));
     })
     c.feed_outputs.ensures

@@ -15,9 +15,9 @@ returns-in_err-output-clause-ready c =
       rounds_few = ready.rounds_few;
       rounds_are = ready.rounds_are;
       rows = ready.rows;
-      matched = c.decide-numbers.ensures.whole.count ∙ ports;
+      matched = c.decide-numbers.ensures.decided.whole.count ∙ ports;
       pointers = decided_ports judge.scheduler (length rows) c.ports-ports.result judge.rounds c.args.t rows judge.pointers _ ports c.requires.within
-          c.ports-ports.ensures.at_ports ready.pointers c.decide-numbers.ensures.decision;
+          c.ports-ports.ensures.at_ports ready.pointers c.decide-numbers.ensures.decided.decision;
       meter = ready.meter;
       count = ready.count;
     }
@@ -35,9 +35,9 @@ returns-clause-ready c =
       rounds_few = ready.rounds_few;
       rounds_are = ready.rounds_are;
       rows = ready.rows;
-      matched = c.decide-numbers.ensures.whole.count ∙ ports;
+      matched = c.decide-numbers.ensures.decided.whole.count ∙ ports;
       pointers = decided_ports judge.scheduler (length rows) c.ports-ports.result judge.rounds c.args.t rows judge.pointers _ ports c.requires.within
-          c.ports-ports.ensures.at_ports ready.pointers c.decide-numbers.ensures.decision;
+          c.ports-ports.ensures.at_ports ready.pointers c.decide-numbers.ensures.decided.decision;
       meter = ready.meter;
       count = ready.count;
     }

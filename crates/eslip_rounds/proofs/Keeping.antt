@@ -1,0 +1,190 @@
+-- Columns that are kept: what they say of the rows, and a change of one row, set after set.
+use Rattle.std.proofs.Common.{◌≡◌, ◌≢◌, ℕ, ◌+◌, ◌<◌, ◌≤◌, ◌↔◌, ◌∙◌, List, [], length, slice_index, slice_index_or, slice_set, take, replicate, sym, ap, subst}
+use Rattle.std.proofs.Common.{inl, inr, arith, length-set, get_or-set_same, get_or-set_other}
+use Rattle.std.proofs.lemmas.Bool.{cases_eq, cases_lt}
+use Rattle.std.proofs.lemmas.List.{get_or-take, length-take, get_or_past, get_or-replicate, length-replicate}
+use Rattle.std_lemmas.proofs.Lists.{get_or-same}
+use Rattle.rotating_pick.specs.declared.kinds.Kind.{Kind}
+use Rattle.rotating_pick.specs.PortSets.{Has}
+use Rattle.rotating_pick.specs.declared.kinds.Kind.TheVariants.{Uni, Multi}
+use Rattle.rotating_pick.specs.declared.limits.TheConstants.{LEVELS, MAX_PORTS}
+use Rattle.rotating_pick.proofs.Picking.{least}
+use Rattle.slot_match.specs.declared.rows.Row.{Row}
+use Rattle.slot_match.specs.Rows.{Names, empty_row, no_row, row_of, AreWithin}
+use Rattle.slot_match.proofs.Sets.{zero-has, Has-or}
+use Rattle.rotating_pick.proofs.Bits.{zero-no_members}
+use Rattle.rotating_pick.proofs.Tables.{no_members}
+use Rattle.eslip_rounds.specs.declared.asks.Asks.{Asks}
+use Rattle.eslip_rounds.specs.declared.ranks.TheConstants.{SETS}
+use Rattle.eslip_rounds.specs.RankSteps.{level_at, kind_at}
+use Rattle.eslip_rounds.specs.Steps.{AreAsks}
+use Rattle.eslip_rounds.specs.ColumnSteps.{IsTurned, AreOutputs, IsKeptSet, AreKept}
+
+-- of the first n rows
+row_of-take : (n : ℕ) (rows : List Row) (i : ℕ) → i < n → row_of (take n rows) i ≡ row_of rows i
+row_of-take n rows i i_in = get_or-take n rows i no_row i_in
+
+module _ (n : ℕ) (rows : List Row) (asks : Asks) (kept : AreKept n rows asks) (within : AreWithin n (take n rows)) where
+  -- an input in a column names its output
+  named_in : (set i j : ℕ) → set < SETS → j < MAX_PORTS → Has (slice_index (slice_index_or asks.columns set []) j) i
+      ↔ ((i < n) × Names (row_of (take n rows) i) (level_at set) (kind_at Uni set) j)
+  named_in set i j set_in j_in =
+      let e = (kept.each set set_in).columns i j j_in in
+      let P : Row → Type 0 = λ row. Names row (level_at set) (kind_at Uni set) j in (
+        λ has. let p = e.0 has in (p.0, subst P (sym (row_of-take n rows i p.0)) p.1),
+        λ p. e.1 (p.0, subst P (row_of-take n rows i p.0) p.1),
+      )
+
+  -- an output whose column is not empty is one of the switch's
+  output_in : (set j : ℕ) → set < SETS → j < MAX_PORTS → slice_index (slice_index_or asks.columns set []) j ≢ 0 → j < n
+  output_in set j set_in j_in some =
+      let column = slice_index (slice_index_or asks.columns set []) j in
+      elim (least (Has column) (Has-or column) n) [
+        | inl found ↦ let p = (named_in set found.0 j set_in j_in).0 found.2 in within.ports found.0 p.0 (level_at set) j (kind_at Uni set) p.1
+        | inr none ↦ absurd (some (zero-no_members column (λ i has. none i ((named_in set i j set_in j_in).0 has).0 has)))
+      ]
+
+  in_table : (set j : ℕ) → set < SETS → slice_index (slice_index_or asks.columns set []) j ≢ 0 → j < MAX_PORTS
+  in_table set j set_in some =
+      let long = (kept.each set set_in).long in
+      elim (cases_lt j MAX_PORTS) [
+        | inl below ↦ below
+        | inr above ↦ absurd (some (get_or_past (slice_index_or asks.columns set []) j 0 (omega arith)))
+      ]
+
+  pub AreAsks-kept : AreAsks n (take n rows) asks
+  AreAsks-kept =
+      record {
+        columns = λ set i j set_in used j_in. named_in set i j set_in (let few = kept.size in omega arith);
+        outputs = λ set i j set_in i_in named.
+            let j_in : j < n = within.ports i i_in (level_at set) j (kind_at Uni set) named in
+            ((kept.each set set_in).outputs j).1 (λ none. zero-has _ i none ((named_in set i j set_in (let few = kept.size in omega arith)).1 (i_in, named)));
+        outputs_in = λ set j set_in has. let some = ((kept.each set set_in).outputs j).0 has in output_in set j set_in (in_table set j set_in some) some;
+      }
+
+-- a set without columns, of rows that name nothing
+pub IsKeptSet-first : (n : ℕ) (rows : List Row) (set : ℕ) (table : List ℕ) (named : ℕ) → length table ≡ MAX_PORTS
+    → ((j : ℕ) → slice_index table j ≡ 0) → named ≡ 0 → ((i j : ℕ) → i < n → Names (row_of rows i) (level_at set) (kind_at Uni set) j → ⊥)
+    → IsKeptSet n rows set table named
+IsKeptSet-first n rows set table named long zeros none nobody =
+    record {
+      long = long;
+      columns = λ i j j_in. (λ has. absurd (zero-has _ i (zeros j) has), λ p. absurd (nobody i j p.0 p.1));
+      outputs = λ j. (λ has. absurd (zero-has named j none has), λ some. absurd (some (zeros j)));
+    }
+
+-- the columns of one set, where the row of one input is another one
+pub IsKeptSet-turned : (n input : ℕ) (rows : List Row) (row : Row) (set new : ℕ) (table after : List ℕ) (named later : ℕ)
+    → input < n → input < length rows → ((j : ℕ) → Has new j ↔ Names row (level_at set) (kind_at Uni set) j) → IsKeptSet n rows set table named
+    → length after ≡ MAX_PORTS → IsTurned input new table after → AreOutputs after later → IsKeptSet n (slice_set rows input row) set after later
+IsKeptSet-turned n input rows row set new table after named later input_in inside names kept long turned outputs =
+    record {
+      long = long;
+      columns = λ i j j_in.
+          let e = turned i j j_in in
+          let k = kept.columns i j j_in in
+          elim (cases_eq i input) [
+            | inl same ↦
+                let here : row_of (slice_set rows input row) input ≡ row = get_or-set_same rows input row no_row inside in
+                let P : ℕ → Type 0 = λ x. Names (row_of (slice_set rows input row) x) (level_at set) (kind_at Uni set) j in
+                let Q : Row → Type 0 = λ r. Names r (level_at set) (kind_at Uni set) j in (
+                  λ has. elim (e.0 has) [
+                    | inl mine ↦ ((let in_n = input_in in omega arith), subst P (sym same) (subst Q (sym here) ((names j).0 mine.1)))
+                    | inr other ↦ absurd (other.0 same)
+                  ],
+                  λ p. e.1 (inl (same, (names j).1 (subst Q here (subst P same p.1)))),
+                )
+            | inr apart ↦
+                let there : row_of (slice_set rows input row) i ≡ row_of rows i = get_or-set_other rows input i row no_row apart in
+                let Q : Row → Type 0 = λ r. Names r (level_at set) (kind_at Uni set) j in (
+                  λ has. elim (e.0 has) [
+                    | inl mine ↦ absurd (apart mine.0)
+                    | inr other ↦ let p = k.0 other.1 in (p.0, subst Q (sym there) p.1)
+                  ],
+                  λ p. e.1 (inr (apart, k.1 (p.0, subst Q there p.1))),
+                )
+          ];
+      outputs = outputs;
+    }
+
+-- the tables after a change of the first k sets: these have the new row, and the others still the old one
+pub record AreChanging (n k : ℕ) (rows changed : List Row) (asks : Asks) : Type 0 where
+  pub sets : length asks.columns ≡ SETS
+  pub words : length asks.outputs ≡ SETS
+  pub done : (s : ℕ) → s < k → IsKeptSet n changed s (slice_index_or asks.columns s []) (slice_index asks.outputs s)
+  pub waits : (s : ℕ) → k ≤ s → s < SETS → IsKeptSet n rows s (slice_index_or asks.columns s []) (slice_index asks.outputs s)
+
+pub AreChanging-next : (n k : ℕ) (rows changed : List Row) (before after : Asks) (table : List ℕ) (named : ℕ) → k < SETS
+    → AreChanging n k rows changed before → after.columns ≡ slice_set before.columns k table → after.outputs ≡ slice_set before.outputs k named
+    → IsKeptSet n changed k table named → AreChanging n (k + 1) rows changed after
+AreChanging-next n k rows changed before after table named k_in known columns outputs kept =
+    let C : List (List ℕ) = slice_set before.columns k table in
+    let O : List ℕ = slice_set before.outputs k named in
+    let in_columns : k < length before.columns = let long = known.sets in omega arith in
+    let in_outputs : k < length before.outputs = let long = known.words in omega arith in
+    let table_at : slice_index_or after.columns k [] ≡ table = ap (λ c. slice_index_or c k []) columns ∙ get_or-set_same before.columns k table [] in_columns in
+    let named_at : slice_index after.outputs k ≡ named = ap (λ o. slice_index o k) outputs ∙ get_or-set_same before.outputs k named 0 in_outputs in
+    let others : (s : ℕ) → (s ≡ k → ⊥) → (slice_index_or after.columns s [] ≡ slice_index_or before.columns s [])
+    × (slice_index after.outputs s ≡ slice_index before.outputs s) = λ s apart. (
+      ap (λ c. slice_index_or c s []) columns ∙ get_or-set_other before.columns k s table [] apart,
+      ap (λ o. slice_index o s) outputs ∙ get_or-set_other before.outputs k s named 0 apart,
+    ) in
+    let along : (rs : List Row) (s : ℕ) (a b : List ℕ) (x y : ℕ) → a ≡ b → x ≡ y → IsKeptSet n rs s a x → IsKeptSet n rs s b y = λ rs s a b x y e d h.
+    subst (λ z. IsKeptSet n rs s b z) d (subst (λ (z : List ℕ). IsKeptSet n rs s z x) e h) in
+    record {
+      sets = ap length columns ∙ (length-set before.columns k table ∙ known.sets);
+      words = ap length outputs ∙ (length-set before.outputs k named ∙ known.words);
+      done = λ s below. elim (cases_eq s k) [
+        | inl here ↦
+            let P : ℕ → Type 0 = λ x. IsKeptSet n changed x (slice_index_or after.columns x []) (slice_index after.outputs x) in
+            subst P (sym here) (along changed k table (slice_index_or after.columns k []) named (slice_index after.outputs k) (sym table_at) (sym named_at) kept)
+        | inr apart ↦
+            let e = others s apart in
+            along changed s (slice_index_or before.columns s []) (slice_index_or after.columns s []) (slice_index before.outputs s)
+            (slice_index after.outputs s) (sym e.0) (sym e.1) (known.done s (omega arith))
+      ];
+      waits = λ s above s_in.
+          let e = others s (λ same. absurd (omega arith)) in
+          along rows s (slice_index_or before.columns s []) (slice_index_or after.columns s []) (slice_index before.outputs s) (slice_index after.outputs s)
+          (sym e.0) (sym e.1) (known.waits s (omega arith) s_in);
+    }
+
+-- after a change of all sets
+pub AreKept-changed : (n k : ℕ) (rows changed : List Row) (asks : Asks) → 0 < n → n ≤ MAX_PORTS → length changed ≡ MAX_PORTS → SETS ≤ k
+    → AreChanging n k rows changed asks → AreKept n changed asks
+AreKept-changed n k rows changed asks some size long all known =
+    record { some = some; size = size; long = long; sets = known.sets; words = known.words; each = λ set set_in. known.done set (omega arith) }
+
+-- as many rows are seen as the switch has ports
+pub length-seen : (n : ℕ) (rows : List Row) → n ≤ MAX_PORTS → length rows ≡ MAX_PORTS → length (take n rows) ≡ n
+length-seen n rows size long = omega (arith, length-take n rows)
+
+-- no output is named by an empty row
+nothing_named : (set j : ℕ) → Names empty_row (level_at set) (kind_at Uni set) j → ⊥
+nothing_named set j = of_kind (kind_at Uni set) where
+  of_kind : (kind : Kind) → Names empty_row (level_at set) kind j → ⊥
+  of_kind Uni has = no_members LEVELS (level_at set) j has
+  of_kind Multi has = no_members LEVELS (level_at set) j has
+
+-- the tables of rows that name nothing
+pub AreKept-first : (n : ℕ) (rows : List Row) (asks : Asks) → 0 < n → n ≤ MAX_PORTS → rows ≡ replicate MAX_PORTS empty_row
+    → asks.columns ≡ replicate SETS (replicate MAX_PORTS 0) → asks.outputs ≡ replicate SETS 0 → AreKept n rows asks
+AreKept-first n rows asks some size empty columns outputs =
+    record {
+      some = some;
+      size = size;
+      long = ap length empty ∙ length-replicate MAX_PORTS empty_row;
+      sets = ap length columns ∙ length-replicate SETS (replicate {A = ℕ} MAX_PORTS 0);
+      words = ap length outputs ∙ length-replicate {A = ℕ} SETS 0;
+      each = λ set set_in.
+          let table : slice_index_or asks.columns set [] ≡ replicate MAX_PORTS 0 = ap (λ c. slice_index_or c set []) columns
+          ∙ get_or-replicate SETS set (replicate {A = ℕ} MAX_PORTS 0) [] set_in in
+          IsKeptSet-first n rows set (slice_index_or asks.columns set []) (slice_index asks.outputs set)
+          (ap length table ∙ length-replicate {A = ℕ} MAX_PORTS 0)
+          (λ j. ap (λ c. slice_index c j) table ∙ get_or-same 0 MAX_PORTS j)
+          (ap (λ o. slice_index o set) outputs ∙ get_or-same 0 SETS set)
+          (λ i j i_in named.
+          let row_is : row_of rows i ≡ empty_row = ap (λ r. row_of r i) empty ∙ get_or-replicate MAX_PORTS i empty_row no_row (omega arith) in
+          let P : Row → Type 0 = λ row. Names row (level_at set) (kind_at Uni set) j in
+          nothing_named set j (subst P row_is named));
+    }
