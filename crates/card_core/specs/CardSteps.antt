@@ -17,6 +17,10 @@ AreFull all = (place : ℕ) → length (slice_index_or all.flows place (fresh 0)
 abbrev pub IsRoom : ℕ → ℕ → ℕ → Type 0
 IsRoom len room capacity = (len ≤ room) × (room ≤ capacity)
 
+-- and for no more
+abbrev pub IsExactRoom : ℕ → ℕ → ℕ → Type 0
+IsExactRoom len room capacity = (len ≤ room) × (capacity ≡ room)
+
 -- what a card keeps after a cell
 abbrev pub received_with : Received → Cell → Received
 received_with r cell = record {

@@ -13,7 +13,7 @@ use std::alloc::Global;
 use std::marker::Model;
 
 /// What a line card keeps of what comes to its output. `body` and `lens` have room for all that comes: for
-/// `body_room` bytes, and for `packet_room` lengths.
+/// `body_room` bytes, and for `packet_room` lengths and no more.
 #[derive(Drop)]
 pub(crate) struct Egress {
     flows: Reassembly,
@@ -27,7 +27,7 @@ pub(crate) struct Egress {
 impl Model for Egress {
     ghost use Rattle.std.specs.Prelude.{vec_capacity, vec_len};
     ghost use Rattle.card_core.specs.Cards.{Received};
-    ghost use Rattle.card_core.specs.CardSteps.{AreFull, IsRoom};
+    ghost use Rattle.card_core.specs.CardSteps.{AreFull, IsRoom, IsExactRoom};
 
     ghost Value = { Received };
 
@@ -40,7 +40,7 @@ impl Model for Egress {
       packet_room = e.packet_room;
     } };
 
-    ghost invariant = { λ e. IsRoom (vec_len e.body) e.body_room (vec_capacity e.body) × IsRoom (vec_len e.lens) e.packet_room (vec_capacity e.lens)
+    ghost invariant = { λ e. IsRoom (vec_len e.body) e.body_room (vec_capacity e.body) × IsExactRoom (vec_len e.lens) e.packet_room (vec_capacity e.lens)
         × AreFull e.flows };
 }
 
@@ -51,7 +51,7 @@ impl Egress {
         alloc: Global,
         n: u32,
         sizes: &[u32],
-        body_room: u32,
+        body_room: u64,
         packet_room: u32,
     ) -> Result<Egress, OutOfMemory>
         requires some { 0 < n }

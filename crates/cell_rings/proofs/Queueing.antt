@@ -48,6 +48,7 @@ module _ {F : Type 0} where
     queue = IsQueue-more gone count ring.items w some few q.queue;
     within = fits;
     taken = omega (arith, q.taken, length_push ring.items w);
+    needed = q.needed;
   }
 
   pub queue_of-more : (depth gone count spare : ℕ) (ring : Buffer (Waiting F)) (w : Waiting F) → IsRing depth gone count spare (Some ring)
@@ -66,6 +67,7 @@ module _ {F : Type 0} where
     queue = IsQueue-next gone count ring.items w is end q.queue;
     within = omega (arith, q.within);
     taken = omega (arith, q.taken, length-drop 1 ring.items);
+    needed = q.needed;
   }
 
   pub queue_of-first : (depth gone count spare : ℕ) (ring : Buffer (Waiting F)) (w : Waiting F) → Some w ≡ slice_get ring.items 0

@@ -20,9 +20,10 @@ module _ {F : Type 0} where
   abbrev pub queue_of : ℕ → ℕ → ℕ → Option (Buffer (Waiting F)) → CellQueue F
   queue_of depth gone spare ring = record { depth = depth; cells = cells_left gone (packets_in ring); spare = spare }
 
-  -- the fields of a queue. Its ring takes all packets that may still enter: each that waits has a cell,
-  -- so there are never more than the depth
+  -- The fields of a queue. Its ring takes all packets that may still enter, and no more than the depth: each that waits
+  -- has a cell, so there are never more.
   pub record IsRing (depth gone count spare : ℕ) (ring : Option (Buffer (Waiting F))) : Type 0 where
     pub queue : IsQueue gone count (packets_in ring)
     pub within : count ≤ depth
     pub taken : min (length (packets_in ring) + spare) depth ≤ capacity_of ring
+    pub needed : capacity_of ring ≤ depth

@@ -16,6 +16,9 @@ empty_room len room capacity none exact = (omega arith, omega arith)
 pub invariant_of-result : goal.invariant_of-result
 invariant_of-result c = (
   empty_room _ _ _ c.in_ok-with_capacity.ensures.len c.in_ok-with_capacity.ensures.exact,
-  empty_room _ _ _ c.in_ok-with_capacity-2.ensures.len c.in_ok-with_capacity-2.ensures.exact,
+  (
+    (empty_room _ _ _ c.in_ok-with_capacity-2.ensures.len c.in_ok-with_capacity-2.ensures.exact).0,
+    c.in_ok-with_capacity-2.ensures.exact,
+  ),
   λ place. subst AreFull (sym c.in_ok-make.ensures) (fresh_at c.args.sizes.now) place,
 )
