@@ -75,7 +75,8 @@ fn settings_text(alloc: Global, settings: Settings) -> Result<String, AllocError
     let depth = settings.depth;
     let workers = settings.workers;
     let speed = speed_text(alloc, settings.speed)?;
-    format!(in alloc; "rounds={rounds} depth={depth} workers={workers} {speed}")
+    let long = if settings.long { " long=1" } else { "" };
+    format!(in alloc; "rounds={rounds} depth={depth} workers={workers} {speed}{long}")
 }
 
 fn speed_text(alloc: Global, speed: Speed) -> Result<String, AllocError> {

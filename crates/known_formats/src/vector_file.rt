@@ -19,8 +19,11 @@ impl RowReader for Reader {
 
     fn at(alloc: Global, name: &str) -> Reader {
         match name {
-            "words.txt" | "measure_words.txt" | "line_rate_words.txt" | "scheduler_words.txt" =>
-                Reader::Words,
+            "words.txt"
+            | "measure_words.txt"
+            | "line_rate_words.txt"
+            | "scheduler_words.txt"
+            | "long_words.txt" => Reader::Words,
             "texts.txt" => Reader::Texts(text_rows::Block::new(alloc)),
             "journals.txt" | "journals_by_scheduler.txt" => {
                 Reader::Journals(journal_rows::Block::new(alloc))

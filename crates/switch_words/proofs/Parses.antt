@@ -22,12 +22,12 @@ use Rattle.clap.proofs.FaultLemmas.{leaf_fault}
 use Rattle.clap.proofs.OnLiterals.{clap_on_literals}
 use Rattle.switch_words.specs.declared.options.Command.{Command}
 use Rattle.switch_words.specs.declared.options.Command.TheVariants.{Run, Gen, Check, Firm}
-use Rattle.switch_words.specs.Options.{Flag, slots, journal, reference, queues, packets, alone}
+use Rattle.switch_words.specs.Options.{Flag, slots, journal, reference, queues, packets, alone, long}
 use Rattle.switch_words.specs.LineSteps.{flags_for, line_for, lookup_in, parts_in, parts_of}
 use Rattle.switch_words.specs.Parts.{no_parts, parts_from}
 use Rattle.switch_words.proofs.Rows.{has_row-lookup, lookup-with, put}
-use Rattle.switch_words.proofs.Rules.{HasRules, IsSound, flag_id, flag_rule, has_rules, names_rule, parts_in-put_default}
-use Rattle.switch_words.proofs.Rules.{rules_for, shape_with}
+use Rattle.switch_words.proofs.Rules.{HasRules, flag_id, flag_rule, has_rules, names_rule, rules_for, shape_with}
+use Rattle.switch_words.proofs.Sound.{IsSound, parts_in-put_default}
 use Rattle.switch_words.proofs.Unless.{unless, unless-or_else}
 use Rattle.switch_words.proofs.Turns.{idle_open, or_once}
 use Rattle.switch_words.proofs.Readings.{AreTexts, reads}
@@ -106,14 +106,31 @@ simple_and_free Firm = refl
 
 -- the flags and the names of a run, and the arguments of each command
 usual_flags : AreUsual (map flag_rule (flags_for Run) ++ names_rule ∷ [])
-usual_flags =
-    (inr (slots, refl), (inr (journal, refl), (inr (reference, refl), (inr (queues, refl), (inr (packets, refl), (inr (alone, refl), (inl refl, tt)))))))
+usual_flags = (
+  inr (slots, refl),
+  (
+    inr (journal, refl),
+    (
+      inr (reference, refl),
+      (
+        inr (queues, refl),
+        (
+          inr (packets, refl),
+          (
+            inr (alone, refl),
+            (inr (long, refl), (inl refl, tt)),
+          ),
+        ),
+      ),
+    ),
+  ),
+)
 
 usual : (command : Command) → AreUsual (rules_for command)
 usual Run = (inl refl, (inl refl, (inl refl, (inl refl, (inl refl, (inl refl, usual_flags))))))
 usual Gen = (inl refl, (inl refl, (inl refl, (inl refl, (inl refl, tt)))))
 usual Check = (inl refl, (inl refl, tt))
-usual Firm = (inl refl, (inl refl, (inl refl, (inl refl, (inl refl, tt)))))
+usual Firm = (inl refl, (inl refl, (inl refl, (inl refl, (inr (long, refl), (inl refl, tt))))))
 
 -- a command has no subcommand: one level is all
 one_level : (command : Command) (words : List Text)

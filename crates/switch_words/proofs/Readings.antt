@@ -10,8 +10,8 @@ use Rattle.switch_words.specs.declared.options.Command.{Command}
 use Rattle.switch_words.specs.Options.{Setting, Switch, value, flag, option_of}
 use Rattle.switch_words.specs.LineSteps.{lookup_in, parts_in}
 use Rattle.switch_words.specs.Parts.{Parts, closing, name, option, parts_from, refused, with_names, word_of}
-use Rattle.switch_words.proofs.Rules.{HasRules, IsMet, IsSound, flag_id, flag_is_set, flag_rule, id_of, names_rule, option_rule, parts_name, set_value}
-use Rattle.switch_words.proofs.Rules.{sound_name, sound_use}
+use Rattle.switch_words.proofs.Rules.{HasRules, IsMet, flag_id, flag_rule, id_of, names_rule, option_rule}
+use Rattle.switch_words.proofs.Sound.{IsSound, flag_is_set, parts_name, set_value, sound_name, sound_use}
 use Rattle.switch_words.proofs.Unless.{under, unless, unless-then}
 use Rattle.switch_words.proofs.Lexing.{Lexed, char_after_dash, closes, lexed, longs, plains, shorts}
 use Rattle.switch_words.proofs.Turns.{IsOpen, Pending, after, ended, held_at, idle_open, out-closing, out-flag, out-flag_value, out-given, out-plain}

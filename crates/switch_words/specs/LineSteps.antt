@@ -28,10 +28,10 @@ options_for Check = codes "scheduler" ∷ []
 options_for Firm = codes "rounds" ∷ codes "depth" ∷ codes "pace-us" ∷ codes "line-rate" ∷ []
 
 abbrev pub flags_for : Command → List Text
-flags_for Run = codes "slots" ∷ codes "journal" ∷ codes "reference" ∷ codes "queues" ∷ codes "packets" ∷ codes "alone" ∷ []
+flags_for Run = codes "slots" ∷ codes "journal" ∷ codes "reference" ∷ codes "queues" ∷ codes "packets" ∷ codes "alone" ∷ codes "long" ∷ []
 flags_for Gen = []
 flags_for Check = []
-flags_for Firm = []
+flags_for Firm = codes "long" ∷ []
 
 abbrev pub args_for : Command → List Rule
 args_for command = map option_arg (options_for command) ++ (map flag_arg (flags_for command) ++ names_arg ∷ [])
@@ -78,6 +78,7 @@ parts_in lookup = record {
     queues = is_true_text (first_text (lookup (codes "queues")));
     packets = is_true_text (first_text (lookup (codes "packets")));
     alone = is_true_text (first_text (lookup (codes "alone")));
+    long = is_true_text (first_text (lookup (codes "long")));
   };
   names = unwrap_or (lookup (codes "names")) [];
 }

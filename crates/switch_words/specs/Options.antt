@@ -9,7 +9,7 @@ pub data Setting : Type 0 where
 
 -- an option without a value
 pub data Flag : Type 0 where
-  slots journal reference queues packets alone : Flag
+  slots journal reference queues packets alone long : Flag
 
 pub data Switch : Type 0 where
   value : Setting → Switch
@@ -44,7 +44,8 @@ option_named name =
     else (if bytes_eq (codes "queues") name then Some (flag queues)
     else (if bytes_eq (codes "packets") name then Some (flag packets)
     else (if bytes_eq (codes "alone") name then Some (flag alone)
-    else None)))))))))))
+    else (if bytes_eq (codes "long") name then Some (flag long)
+    else None))))))))))))
 
 -- whether a command has an option
 abbrev pub is_option_of : Command → Switch → Bool
@@ -69,7 +70,13 @@ is_option_of Firm (value workers) = false
 is_option_of Firm (value pace_us) = true
 is_option_of Firm (value line_rate) = true
 is_option_of Firm (value scheduler) = false
-is_option_of Firm (flag f) = false
+is_option_of Firm (flag slots) = false
+is_option_of Firm (flag journal) = false
+is_option_of Firm (flag reference) = false
+is_option_of Firm (flag queues) = false
+is_option_of Firm (flag packets) = false
+is_option_of Firm (flag alone) = false
+is_option_of Firm (flag long) = true
 
 -- the option of a name that a command has
 abbrev pub option_of : Command → List ℕ → Option Switch

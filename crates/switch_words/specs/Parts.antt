@@ -4,7 +4,7 @@ use Rattle.std.specs.List.{list_any, before_first, after_first}
 use Rattle.switch_words.specs.declared.options.Command.{Command}
 use Rattle.switch_words.specs.declared.options.Flags.{Flags}
 use Rattle.switch_words.specs.Options.{Setting, rounds, depth, workers, pace_us, line_rate, scheduler, Switch, value, flag, option_of}
-use Rattle.switch_words.specs.Options.{Flag, slots, journal, reference, queues, packets, alone}
+use Rattle.switch_words.specs.Options.{Flag, slots, journal, reference, queues, packets, alone, long}
 
 -- the texts that the options have, which flags were given, and the names
 pub record Parts : Type 0 where
@@ -26,7 +26,7 @@ no_parts = record {
   pace_us = None;
   line_rate = None;
   scheduler = None;
-  flags = record { slots = false; journal = false; reference = false; queues = false; packets = false; alone = false };
+  flags = record { slots = false; journal = false; reference = false; queues = false; packets = false; alone = false; long = false };
   names = [];
 }
 
@@ -60,6 +60,7 @@ is_given flags reference = flags.reference
 is_given flags queues = flags.queues
 is_given flags packets = flags.packets
 is_given flags alone = flags.alone
+is_given flags long = flags.long
 
 -- with this flag
 abbrev pub set_flag : Flags → Flag → Flags
@@ -69,6 +70,7 @@ set_flag flags reference = record flags { reference = true }
 set_flag flags queues = record flags { queues = true }
 set_flag flags packets = record flags { packets = true }
 set_flag flags alone = record flags { alone = true }
+set_flag flags long = record flags { long = true }
 
 -- with a flag that was not given before
 abbrev pub with_flag : Parts → Flag → Option Parts

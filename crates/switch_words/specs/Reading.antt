@@ -1,9 +1,8 @@
 -- The reading of a list of words: the job that it means.
-use Rattle.std.specs.Prelude.{ℕ, Bool, ◌&&◌, nat_le, if◌then◌else◌, List, [], ◌∷◌, length, map, string_bytes}
+use Rattle.std.specs.Prelude.{ℕ, Bool, false, ◌&&◌, ◌||◌, nat_le, if◌then◌else◌, List, [], ◌∷◌, length, map, string_bytes}
 use Rattle.std.specs.Prelude.{Option, None, Some, option_and_then, option_map, unwrap_or}
 use Rattle.rotating_pick.specs.declared.limits.TheConstants.{MAX_PORTS, MAX_ROUNDS}
 use Rattle.line_pace.specs.declared.pace.TheConstants.{MAX_LINE_RATE, MAX_SLOT_MICROS}
-use Rattle.voq_banks.specs.declared.limits.TheConstants.{MAX_DEPTH}
 use Rattle.scheduler_names.specs.declared.names.SchedulerName.{SchedulerName}
 use Rattle.scheduler_names.specs.declared.names.SchedulerName.TheVariants.{Islip}
 use Rattle.scheduler_names.specs.Words.{scheduler_named}
@@ -20,6 +19,7 @@ use Rattle.switch_words.specs.declared.job.Job.TheVariants as job
 use Rattle.switch_words.specs.declared.options.Command.{Command}
 use Rattle.switch_words.specs.declared.options.Command.TheVariants.{Run, Gen, Check, Firm}
 use Rattle.switch_words.specs.declared.options.Flags.{Flags}
+use Rattle.switch_words.specs.Limits.{most_depth}
 use Rattle.switch_words.specs.Numbers.{number_within}
 use Rattle.switch_words.specs.Options.{command_named}
 use Rattle.switch_words.specs.Parts.{Parts, no_parts, parts_from}
@@ -40,16 +40,17 @@ abbrev pub speed_given : Option (List ℕ) → Option (List ℕ) → Option Spee
 speed_given pace_us line_rate =
     option_and_then (λ micros. option_and_then (speed_from micros) (number_given MAX_LINE_RATE line_rate)) (number_given MAX_SLOT_MICROS pace_us)
 
--- the settings, with the defaults of what was not given
-unfoldable pub settings_of : Parts → Option Settings
-settings_of parts =
+-- the settings of a run that is long or not, with the defaults of what was not given
+unfoldable pub settings_of : Bool → Parts → Option Settings
+settings_of long parts =
     option_and_then (λ rounds. option_and_then (λ depth. option_and_then (λ workers. option_map (λ speed. record {
       rounds = unwrap_or rounds DEFAULT_ROUNDS;
-      depth = unwrap_or depth MAX_DEPTH;
+      depth = unwrap_or depth (most_depth long);
       workers = unwrap_or workers DEFAULT_WORKERS;
       speed = speed;
+      long = long;
     }) (speed_given parts.pace_us parts.line_rate)) (number_given MAX_WORKERS parts.workers))
-    (number_given MAX_DEPTH parts.depth)) (number_given MAX_ROUNDS parts.rounds)
+    (number_given (most_depth long) parts.depth)) (number_given MAX_ROUNDS parts.rounds)
 
 -- The scheduler that an option's text names, iSLIP where the option was not given. None where there is none of that name.
 abbrev pub scheduler_given : Option (List ℕ) → Option SchedulerName
@@ -86,8 +87,8 @@ abbrev pub inputs_in : List (List ℕ) → Option (List (List ℕ))
 inputs_in names = if nat_le 1 (length names) && nat_le (length names) MAX_PORTS then Some names else None
 
 -- the names of `run`: a table, a prefix and the captures
-abbrev pub run_with : Settings → SchedulerName → Flags → List (List ℕ) → Option RunWords
-run_with settings scheduler flags (table ∷ prefix ∷ names) =
+abbrev pub run_named : Settings → SchedulerName → Flags → List (List ℕ) → Option RunWords
+run_named settings scheduler flags (table ∷ prefix ∷ names) =
     option_map (λ inputs. record {
       settings = settings;
       scheduler = scheduler;
@@ -101,7 +102,12 @@ run_with settings scheduler flags (table ∷ prefix ∷ names) =
       prefix = prefix;
       inputs = inputs;
     }) (inputs_in names)
-run_with settings scheduler flags _ = None
+run_named settings scheduler flags _ = None
+
+-- with these flags and names: a long run tells of no slot
+abbrev pub run_with : Settings → SchedulerName → Flags → List (List ℕ) → Option RunWords
+run_with settings scheduler flags names =
+    if settings.long && (flags.slots || flags.journal) then None else run_named settings scheduler flags names
 
 -- the names of `firm`: a table and the captures
 abbrev pub firm_with : Settings → List (List ℕ) → Option FirmWords
@@ -136,12 +142,12 @@ pub data JobWords : Type 0 where
 unfoldable pub job_with : Command → Parts → Option JobWords
 job_with Run parts =
     option_and_then (λ settings. option_and_then (λ scheduler. option_map run (run_with settings scheduler parts.flags parts.names))
-    (scheduler_given parts.scheduler)) (settings_of parts)
+    (scheduler_given parts.scheduler)) (settings_of parts.flags.long parts)
 job_with Gen parts =
     option_and_then (λ settings. option_and_then (λ scheduler. option_map gen (gen_with settings scheduler parts.names))
-    (scheduler_given parts.scheduler)) (settings_of parts)
+    (scheduler_given parts.scheduler)) (settings_of false parts)
 job_with Check parts = option_and_then (λ scheduler. option_map check (check_with scheduler parts.names)) (scheduler_given parts.scheduler)
-job_with Firm parts = option_and_then (λ settings. option_map firm (firm_with settings parts.names)) (settings_of parts)
+job_with Firm parts = option_and_then (λ settings. option_map firm (firm_with settings parts.names)) (settings_of parts.flags.long parts)
 
 -- The job that a list of words means; None where they mean none.
 unfoldable pub reading_of : List (List ℕ) → Option JobWords

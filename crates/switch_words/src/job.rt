@@ -17,12 +17,15 @@ pub enum Speed {
 pub struct Settings {
     /// Rounds of request, grant and accept in a slot: 1 to 64, 4 where no option says them.
     pub rounds: u32,
-    /// The depth of each queue, in cells: 1 to 131,072, which it is where no option says it.
+    /// The depth of each queue, in cells: 1 to 131,072, and to 1,073,741,824 in a long run; the greatest where no
+    /// option says it.
     pub depth: u32,
     /// Workers: 1 to 32, 4 where no option says them.
     pub workers: u32,
     /// How fast packets come, untimed where no option says it.
     pub speed: Speed,
+    /// Whether the run is a long one, which has greater limits and tells of no slot. A made input has no long run.
+    pub long: bool,
 }
 
 /// Switch the packets of captures.
@@ -32,9 +35,9 @@ pub struct RunJob {
     pub settings: Settings,
     /// The scheduler of the run, iSLIP where no option names one.
     pub scheduler: SchedulerName,
-    /// Whether the report names each slot.
+    /// Whether the report names each slot, which that of a long run does not.
     pub slots: bool,
-    /// Whether the journal is written.
+    /// Whether the journal is written, which a long run has not.
     pub journal: bool,
     /// Whether the report compares each output with the output-queued reference.
     pub reference: bool,

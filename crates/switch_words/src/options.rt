@@ -24,6 +24,7 @@ pub(crate) struct Flags {
     pub(crate) queues: bool,
     pub(crate) packets: bool,
     pub(crate) alone: bool,
+    pub(crate) long: bool,
 }
 
 impl Command {
@@ -81,8 +82,10 @@ impl Command {
                 "queues",
                 "packets",
                 "alone",
+                "long",
             ],
-            Command::Gen | Command::Check | Command::Firm => &[],
+            Command::Gen | Command::Check => &[],
+            Command::Firm => &["long"],
         }
     }
 }

@@ -1,4 +1,4 @@
-ghost use Rattle.std.specs.Prelude.{◌≡◌, codes, Some, None, Err, drop, map, ok_or, option_map, string_bytes, vec_len, IfOk, IfSome};
+ghost use Rattle.std.specs.Prelude.{◌≡◌, codes, false, Some, None, Err, drop, map, ok_or, option_map, string_bytes, vec_len, IfOk, IfSome};
 ghost use Rattle.switch_words.specs.Options.{command_in};
 ghost use Rattle.switch_words.specs.Parts.{no_parts, parts_from};
 ghost use Rattle.switch_words.specs.Reading.{number_given, scheduler_given, settings_of, speed_given, inputs_in, run_with, firm_with, check_with, gen_with};
@@ -8,7 +8,9 @@ ghost use Rattle.switch_words.specs.LineSteps.{first_text, is_true_text, lookup_
 
 use crate::fault::WordsFault;
 use crate::job::{CheckJob, FirmJob, GenJob, Job, RunJob, Settings, Speed};
-use crate::limits::{DEFAULT_ROUNDS, DEFAULT_WORKERS, MAX_COUNT, MAX_SEED, MAX_WORKERS};
+use crate::limits::{
+    DEFAULT_ROUNDS, DEFAULT_WORKERS, MAX_COUNT, MAX_SEED, MAX_WORKERS, most_depth,
+};
 use crate::numbers::number_within;
 use crate::options::{Command, Flags};
 use clap::ArgMatches;
@@ -16,7 +18,6 @@ use line_pace::{MAX_LINE_RATE, MAX_SLOT_MICROS};
 use rotating_pick::{MAX_PORTS, MAX_ROUNDS};
 use scheduler_names::SchedulerName;
 use std::alloc::{AllocError, Global};
-use voq_banks::MAX_DEPTH;
 
 /// Reads the words of a command line, without the program's name.
 ///
@@ -27,9 +28,9 @@ use voq_banks::MAX_DEPTH;
 ///
 /// `Usage` comes exactly where the words give no job, want of memory aside: there is no such command,
 /// a word is refused, the command lacks an option, an option is repeated, a flag has a value, a value is
-/// no number within its limits or no scheduler's name, both `--pace-us` and `--line-rate` are given, or
-/// there are more or fewer names. `OutOfMemory` may come in place of any answer but that there is no such
-/// command.
+/// no number within its limits or no scheduler's name, both `--pace-us` and `--line-rate` are given, `--long`
+/// is given with `--slots` or `--journal`, or there are more or fewer names. `OutOfMemory` may come in place of
+/// any answer but that there is no such command.
 #[tactic(auto, unfolding(crate::specs::Reading::reading_of))]
 pub fn read_words(alloc: Global, words: &[String]) -> Result<Job, WordsFault>
     ensures job { IfOk result (λ job. reading_of (map string_bytes words.now) ≡ Some (job_words job)) }
@@ -56,14 +57,21 @@ fn job_of(alloc: Global, command: Command, matches: &ArgMatches<'_>) -> Result<J
     let names = names(matches).ok_or(WordsFault::Usage)?;
     match command {
         Command::Run => {
-            let settings = settings(matches)?;
-            let scheduler = scheduler(matches)?;
             let flags = flags(matches);
+            let settings = settings(matches, flags.long)?;
+            let scheduler = scheduler(matches)?;
             Ok(Job::Run(run_job(alloc, settings, scheduler, flags, names)?))
         }
-        Command::Gen => Ok(Job::Gen(gen_job(settings(matches)?, scheduler(matches)?, names)?)),
+        Command::Gen => Ok(Job::Gen(gen_job(
+            settings(matches, false)?,
+            scheduler(matches)?,
+            names,
+        )?)),
         Command::Check => Ok(Job::Check(check_job(alloc, scheduler(matches)?, names)?)),
-        Command::Firm => Ok(Job::Firm(firm_job(alloc, settings(matches)?, names)?)),
+        Command::Firm => {
+            let settings = settings(matches, flags(matches).long)?;
+            Ok(Job::Firm(firm_job(alloc, settings, names)?))
+        }
     }
 }
 
@@ -81,25 +89,29 @@ fn parsed<'a>(
     Ok(line.try_get_matches_from(words)?)
 }
 
-// The settings. An option that the command lacks has no text.
-fn settings(matches: &ArgMatches<'_>) -> Result<Settings, WordsFault>
-    ensures settings { result ≡ ok_or (settings_of (parts_of matches.now)) WordsFault.Usage }
+// The settings of a run that is long or not. An option that the command lacks has no text.
+fn settings(matches: &ArgMatches<'_>, long: bool) -> Result<Settings, WordsFault>
+    ensures settings { result ≡ ok_or (settings_of long (parts_of matches.now)) WordsFault.Usage }
     ensures limits { IfOk result AreWithinLimits }
+    ensures long { IfOk result (λ settings. settings.long ≡ long) }
 {
-    given_settings(matches).ok_or(WordsFault::Usage)
+    given_settings(matches, long).ok_or(WordsFault::Usage)
 }
 
 // The settings, where each option's text is a number within its limits.
 #[tactic(auto, unfolding(crate::specs::Reading::settings_of))]
-fn given_settings(matches: &ArgMatches<'_>) -> Option<Settings>
-    ensures settings { result ≡ settings_of (parts_of matches.now) }
+fn given_settings(matches: &ArgMatches<'_>, long: bool) -> Option<Settings>
+    ensures settings { result ≡ settings_of long (parts_of matches.now) }
     ensures limits { IfSome result AreWithinLimits }
+    ensures long { IfSome result (λ settings. settings.long ≡ long) }
 {
+    let most = most_depth(long);
     Some(Settings {
         rounds: number(matches, "rounds", MAX_ROUNDS)?.unwrap_or(DEFAULT_ROUNDS),
-        depth: number(matches, "depth", MAX_DEPTH)?.unwrap_or(MAX_DEPTH),
+        depth: number(matches, "depth", most)?.unwrap_or(most),
         workers: number(matches, "workers", MAX_WORKERS)?.unwrap_or(DEFAULT_WORKERS),
         speed: speed(matches)?,
+        long,
     })
 }
 
@@ -150,6 +162,7 @@ fn flags(matches: &ArgMatches<'_>) -> Flags
         queues: has_flag(matches, "queues"),
         packets: has_flag(matches, "packets"),
         alone: has_flag(matches, "alone"),
+        long: has_flag(matches, "long"),
     }
 }
 
@@ -177,7 +190,7 @@ fn names<'m, 'a>(matches: &'m ArgMatches<'a>) -> Option<&'m [&'a str]>
     matches.get_strs("names")
 }
 
-// The job of `run` with these names: a table, a prefix and the captures.
+// The job of `run` with these names: a table, a prefix and the captures. A long run tells of no slot.
 fn run_job(
     alloc: Global,
     settings: Settings,
@@ -190,6 +203,9 @@ fn run_job(
     ensures none { run_with settings scheduler flags (map (λ name. name.now) names.now) ≡ None → result ≡ Err WordsFault.Usage }
     ensures limits { AreWithinLimits settings → IfOk result IsRunWithinLimits }
 {
+    if settings.long && (flags.slots || flags.journal) {
+        return Err(WordsFault::Usage);
+    }
     let [table, prefix, names @ ..] = names else {
         return Err(WordsFault::Usage);
     };
@@ -274,7 +290,7 @@ fn gen_job(
     names: &[&str],
 ) -> Result<GenJob, WordsFault>
     ensures job { result ≡ ok_or (gen_with settings scheduler (map (λ name. name.now) names.now)) WordsFault.Usage }
-    ensures limits { AreWithinLimits settings → IfOk result IsGenWithinLimits }
+    ensures limits { AreWithinLimits settings → settings.long ≡ false → IfOk result IsGenWithinLimits }
 {
     made_job(settings, scheduler, names).ok_or(WordsFault::Usage)
 }
@@ -282,7 +298,7 @@ fn gen_job(
 // A seed, a count and a number of ports, where each name is a number within its limits.
 fn made_job(settings: Settings, scheduler: SchedulerName, names: &[&str]) -> Option<GenJob>
     ensures job { result ≡ gen_with settings scheduler (map (λ name. name.now) names.now) }
-    ensures limits { AreWithinLimits settings → IfSome result IsGenWithinLimits }
+    ensures limits { AreWithinLimits settings → settings.long ≡ false → IfSome result IsGenWithinLimits }
 {
     let [seed, count, ports] = names else {
         return None;

@@ -3,7 +3,7 @@ use Rattle.std.proofs.Common.{◌≡◌, ◌∙◌, ap, ap₂, sym, subst, true,
 use Rattle.std.proofs.Common.{if◌then◌else◌, bytes_eq, option_to_list, option_and_then, append_assoc, append-nil}
 use Rattle.std.proofs.lemmas.Slice.Eq.{bytes_eq-Decides}
 use Rattle.std.proofs.lemmas.Bool.{cases_Bool}
-use Rattle.switch_words.specs.Options.{rounds, depth, workers, pace_us, line_rate, scheduler, slots, journal, reference, queues, packets, alone}
+use Rattle.switch_words.specs.Options.{rounds, depth, workers, pace_us, line_rate, scheduler, slots, journal, reference, queues, packets, alone, long}
 use Rattle.switch_words.specs.Options.{Switch, value, flag, command_named, is_option_of, option_of}
 use Rattle.switch_words.specs.Parts.{Parts, is_given, set_flag, set_text, text_in, with_flag, with_names, with_text}
 use Rattle.word_grammar.specs.Grammar.{Argument, AreWritten, IsWritten, Text, given, names_in}
@@ -62,6 +62,7 @@ put_texts parts (flag reference) (flag reference) text none = rw none refl
 put_texts parts (flag queues) (flag queues) text none = rw none refl
 put_texts parts (flag packets) (flag packets) text none = rw none refl
 put_texts parts (flag alone) (flag alone) text none = rw none refl
+put_texts parts (flag long) (flag long) text none = rw none refl
 put_texts parts (value rounds) (flag slots) text none = append-nil _
 put_texts parts (value depth) (flag slots) text none = append-nil _
 put_texts parts (value workers) (flag slots) text none = append-nil _
@@ -74,6 +75,7 @@ put_texts parts (flag reference) (value rounds) text none = append-nil _
 put_texts parts (flag queues) (value rounds) text none = append-nil _
 put_texts parts (flag packets) (value rounds) text none = append-nil _
 put_texts parts (flag alone) (value rounds) text none = append-nil _
+put_texts parts (flag long) (value rounds) text none = append-nil _
 put_texts parts _ _ text none = append-nil _
 
 put_names : (parts : Parts) (w : Switch) (text : Text) → parts.names ++ names_in (argument_of w text ∷ []) ≡ (put parts w text).names
@@ -210,6 +212,7 @@ same_parts parts all agrees = λ i. record {
     queues = same_flag parts.flags.queues all.flags.queues (agrees.texts (flag queues)) i;
     packets = same_flag parts.flags.packets all.flags.packets (agrees.texts (flag packets)) i;
     alone = same_flag parts.flags.alone all.flags.alone (agrees.texts (flag alone)) i;
+    long = same_flag parts.flags.long all.flags.long (agrees.texts (flag long)) i;
   };
   names = (sym (append-nil parts.names) ∙ agrees.names) i;
 }
@@ -266,6 +269,7 @@ given_one (flag reference) text = ([], refl)
 given_one (flag queues) text = ([], refl)
 given_one (flag packets) text = ([], refl)
 given_one (flag alone) text = ([], refl)
+given_one (flag long) text = ([], refl)
 
 -- so one that was given before is not given again
 not_again : (parts all : Parts) (w : Switch) (text : Text) (more : List Argument) → has parts w ≡ true → Agrees parts (argument_of w text ∷ more) all → ⊥

@@ -1,10 +1,11 @@
 -- Where arguments are a job, each option is given once at most.
-use Rattle.std.proofs.Common.{◌≡◌, Bool, false, List, ◌++◌, Option, None, Some, refl, inl, inr, ℕ, option_to_list, ap, sym}
+use Rattle.std.proofs.Common.{◌≡◌, ◌∙◌, Bool, false, List, [], ◌++◌, Option, None, Some, refl, inl, inr, ℕ, option_map, option_to_list, ap, sym}
 use Rattle.scheduler_names.specs.declared.names.SchedulerName.{SchedulerName}
 use Rattle.scheduler_names.specs.Words.{scheduler_word}
 use Rattle.switch_words.specs.declared.job.Speed.{Speed}
 use Rattle.switch_words.specs.declared.job.Speed.TheVariants.{Untimed, SlotMicros, LineRate}
-use Rattle.switch_words.specs.Options.{Setting, Flag, rounds, depth, workers, pace_us, line_rate, scheduler, slots, journal, reference, queues, packets, alone}
+use Rattle.switch_words.specs.Options.{Setting, Flag, rounds, depth, workers, pace_us, line_rate, scheduler}
+use Rattle.switch_words.specs.Options.{slots, journal, reference, queues, packets, alone, long}
 use Rattle.switch_words.specs.Options.{Switch, value, flag, command_named, is_option_of}
 use Rattle.switch_words.specs.Parts.{Parts, no_parts}
 use Rattle.switch_words.specs.Reading.{JobWords, check, firm, gen, run}
@@ -36,6 +37,14 @@ few_speed paces rates Untimed (p, r) = ((None, p), (None, r))
 few_speed paces rates (SlotMicros n) ((text, is, reads), r) = ((Some text, is), (None, r))
 few_speed paces rates (LineRate n) (p, (text, is, reads)) = ((None, p), (Some text, is))
 
+-- nothing is given of what the command of a word lacks
+lacked : (line : Text) (command : Command) → command_named line ≡ Some command → (arguments : List Argument) → AreKnown command arguments
+    → (word : Text) → line ≡ word → (w : Switch) → option_map (λ c. is_option_of c w) (command_named word) ≡ Some false
+    → given (id_of w) arguments ≡ []
+lacked line command at arguments known word same w lacks =
+    none_given command arguments w known
+    (some_is (sym (ap (option_map (λ c. is_option_of c w)) (same_command line command word at same)) ∙ lacks))
+
 pub few_of : (line : Text) (command : Command) → command_named line ≡ Some command
     → (arguments : List Argument) (names : List Text) (job : JobWords) → AreKnown command arguments
     → IsJob line arguments names job → Few arguments
@@ -59,9 +68,10 @@ few_of line command at arguments names (run job) known (same, are, by, flags, is
     given_flags queues = (job.queues, flags.queues)
     given_flags packets = (job.packets, flags.packets)
     given_flags alone = (job.alone, flags.alone)
-few_of line command at arguments names (gen job) known (same, are, by, is) = record {
+    given_flags long = (job.settings.long, flags.long)
+few_of line command at arguments names (gen job) known (same, are, short, by, is) = record {
   values = values;
-  flags = λ f. (false, none_given command arguments (flag f) known (ap (λ c. is_option_of c (flag f)) (sym (some_is (same_command line command _ at same)))));
+  flags = λ f. (false, lacked line command at arguments known _ same (flag f) refl);
 }
   where
     values : (s : Setting) → FewTexts (given (id_of (value s)) arguments)
@@ -73,39 +83,19 @@ few_of line command at arguments names (gen job) known (same, are, by, is) = rec
     values scheduler = few_scheduler _ job.scheduler by
 few_of line command at arguments names (check job) known (same, by, is) = record {
   values = values;
-  flags = λ f. (false, none_given command arguments (flag f) known (ap (λ c. is_option_of c (flag f)) (sym (some_is (same_command line command _ at same)))));
+  flags = λ f. (false, lacked line command at arguments known _ same (flag f) refl);
 }
   where
     values : (s : Setting) → FewTexts (given (id_of (value s)) arguments)
     values scheduler = few_scheduler _ job.scheduler by
-    values rounds = (
-      None,
-      none_given command arguments (value rounds) known
-          (ap (λ c. is_option_of c (value rounds)) (sym (some_is (same_command line command _ at same)))),
-    )
-    values depth = (
-      None,
-      none_given command arguments (value depth) known
-          (ap (λ c. is_option_of c (value depth)) (sym (some_is (same_command line command _ at same)))),
-    )
-    values workers = (
-      None,
-      none_given command arguments (value workers) known
-          (ap (λ c. is_option_of c (value workers)) (sym (some_is (same_command line command _ at same)))),
-    )
-    values pace_us = (
-      None,
-      none_given command arguments (value pace_us) known
-          (ap (λ c. is_option_of c (value pace_us)) (sym (some_is (same_command line command _ at same)))),
-    )
-    values line_rate = (
-      None,
-      none_given command arguments (value line_rate) known
-          (ap (λ c. is_option_of c (value line_rate)) (sym (some_is (same_command line command _ at same)))),
-    )
-few_of line command at arguments names (firm job) known (same, are, is, up) = record {
+    values rounds = (None, lacked line command at arguments known _ same (value rounds) refl)
+    values depth = (None, lacked line command at arguments known _ same (value depth) refl)
+    values workers = (None, lacked line command at arguments known _ same (value workers) refl)
+    values pace_us = (None, lacked line command at arguments known _ same (value pace_us) refl)
+    values line_rate = (None, lacked line command at arguments known _ same (value line_rate) refl)
+few_of line command at arguments names (firm job) known (same, are, flag_long, is, up) = record {
   values = values;
-  flags = λ f. (false, none_given command arguments (flag f) known (ap (λ c. is_option_of c (flag f)) (sym (some_is (same_command line command _ at same)))));
+  flags = given_flags;
 }
   where
     values : (s : Setting) → FewTexts (given (id_of (value s)) arguments)
@@ -114,11 +104,16 @@ few_of line command at arguments names (firm job) known (same, are, is, up) = re
     values workers = few_number _ _ _ _ are.workers
     values pace_us = (few_speed _ _ job.settings.speed are.speed).0
     values line_rate = (few_speed _ _ job.settings.speed are.speed).1
-    values scheduler = (
-      None,
-      none_given command arguments (value scheduler) known
-          (ap (λ c. is_option_of c (value scheduler)) (sym (some_is (same_command line command _ at same)))),
-    )
+    values scheduler = (None, lacked line command at arguments known _ same (value scheduler) refl)
+
+    given_flags : (f : Flag) → FewFlags (given (id_of (flag f)) arguments)
+    given_flags slots = (false, lacked line command at arguments known _ same (flag slots) refl)
+    given_flags journal = (false, lacked line command at arguments known _ same (flag journal) refl)
+    given_flags reference = (false, lacked line command at arguments known _ same (flag reference) refl)
+    given_flags queues = (false, lacked line command at arguments known _ same (flag queues) refl)
+    given_flags packets = (false, lacked line command at arguments known _ same (flag packets) refl)
+    given_flags alone = (false, lacked line command at arguments known _ same (flag alone) refl)
+    given_flags long = (job.settings.long, flag_long)
 
 -- what was said by arguments that say each thing once
 abbrev pub said : (arguments : List Argument) → Few arguments → Parts
@@ -136,6 +131,7 @@ said arguments few = record {
     queues = (few.flags queues).0;
     packets = (few.flags packets).0;
     alone = (few.flags alone).0;
+    long = (few.flags long).0;
   };
   names = names_in arguments;
 }
@@ -156,3 +152,4 @@ said_agrees arguments few = record { texts = texts; names = refl }
     texts (flag queues) = (few.flags queues).1
     texts (flag packets) = (few.flags packets).1
     texts (flag alone) = (few.flags alone).1
+    texts (flag long) = (few.flags long).1

@@ -3,7 +3,7 @@ use Rattle.std.proofs.Common.{◌≡◌, ◌∙◌, ap, sym, subst, true, false,
 use Rattle.std.proofs.Common.{option_and_then}
 use Rattle.std.proofs.lemmas.Slice.Eq.{bytes_eq-Decides}
 use Rattle.std.proofs.lemmas.Bool.{cases_Bool}
-use Rattle.switch_words.specs.Options.{rounds, depth, workers, pace_us, line_rate, scheduler, slots, journal, reference, queues, packets, alone}
+use Rattle.switch_words.specs.Options.{rounds, depth, workers, pace_us, line_rate, scheduler, slots, journal, reference, queues, packets, alone, long}
 use Rattle.switch_words.specs.Options.{Switch, value, flag, command_named, option_named, is_option_of, option_of}
 use Rattle.switch_words.specs.Parts.{word_of}
 use Rattle.switch_words.specs.Parts as word
@@ -37,6 +37,7 @@ id_of (flag reference) = codes "reference"
 id_of (flag queues) = codes "queues"
 id_of (flag packets) = codes "packets"
 id_of (flag alone) = codes "alone"
+id_of (flag long) = codes "long"
 
 -- one line of the table of names
 line : (id : Text) (w : Switch) (at : Switch) (rest : Option Switch) → (rest ≡ Some w → id ≡ id_of w)
@@ -56,7 +57,7 @@ named_id id w h =
     line id w (value rounds) _ (line id w (value depth) _ (line id w (value workers) _ (line id w (value pace_us) _
     (line id w (value line_rate) _ (line id w (value scheduler) _ (line id w (flag slots) _ (line id w (flag journal) _
     (line id w (flag reference) _ (line id w (flag queues) _ (line id w (flag packets) _ (line id w (flag alone) _
-    (nothing id w)))))))))))) h
+    (line id w (flag long) _ (nothing id w))))))))))))) h
 
 pub id_named : (w : Switch) → option_named (id_of w) ≡ Some w
 id_named (value rounds) = refl
@@ -71,6 +72,7 @@ id_named (flag reference) = refl
 id_named (flag queues) = refl
 id_named (flag packets) = refl
 id_named (flag alone) = refl
+id_named (flag long) = refl
 
 kept : (command : Command) (o : Option Switch) (w : Switch)
     → option_and_then (λ x. if is_option_of command x then Some x else None) o ≡ Some w → (o ≡ Some w) × (is_option_of command w ≡ true)
@@ -111,6 +113,7 @@ long_word (flag reference) = refl
 long_word (flag queues) = refl
 long_word (flag packets) = refl
 long_word (flag alone) = refl
+long_word (flag long) = refl
 
 -- and with its value
 pub valued_word : (w : Switch) (text : Text) → word_of (codes "--" ++ (id_of w ++ (codes "=" ++ text))) ≡ word.option (id_of w) (Some text)
@@ -126,3 +129,4 @@ valued_word (flag reference) text = refl
 valued_word (flag queues) text = refl
 valued_word (flag packets) text = refl
 valued_word (flag alone) text = refl
+valued_word (flag long) text = refl

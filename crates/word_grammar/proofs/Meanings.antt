@@ -1,7 +1,7 @@
 -- Words are read as the job of the grammar.
 use Rattle.std.proofs.Common.{◌≡◌, ◌∙◌, ap, sym, subst, List, [], ◌∷◌, ◌++◌, Option, None, Some, refl, inl, inr, codes, option_and_then, option_map}
 use Rattle.switch_words.specs.Options.{value, flag, command_named}
-use Rattle.switch_words.specs.Options.{rounds, depth, workers, pace_us, line_rate, scheduler, slots, journal, reference, queues, packets, alone}
+use Rattle.switch_words.specs.Options.{rounds, depth, workers, pace_us, line_rate, scheduler, slots, journal, reference, queues, packets, alone, long}
 use Rattle.switch_words.specs.Parts.{Parts, no_parts, parts_from, with_names}
 use Rattle.switch_words.specs.Reading.{JobWords, check, firm, gen, run, job_with, reading_of}
 use Rattle.word_grammar.specs.Grammar.{Argument, AreJob, IsJob, Text, names_in}
@@ -26,6 +26,7 @@ say arguments all further agrees (flag reference) = agrees.texts (flag reference
 say arguments all further agrees (flag queues) = agrees.texts (flag queues)
 say arguments all further agrees (flag packets) = agrees.texts (flag packets)
 say arguments all further agrees (flag alone) = agrees.texts (flag alone)
+say arguments all further agrees (flag long) = agrees.texts (flag long)
 
 -- ---- what is read is of the grammar
 

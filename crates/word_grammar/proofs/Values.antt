@@ -1,12 +1,11 @@
 -- The values of options, read and by the grammar.
-use Rattle.std.proofs.Common.{◌≡◌, ◌∙◌, ap, sym, subst, true, List, [], ◌∷◌, Option, None, Some, refl, inl, inr, ℕ, length, codes}
+use Rattle.std.proofs.Common.{◌≡◌, ◌∙◌, ap, sym, subst, true, Bool, List, [], ◌∷◌, Option, None, Some, refl, inl, inr, ℕ, length, codes}
 use Rattle.std.proofs.Common.{arith, bytes_eq, nat_le, option_map, option_and_then, option_to_list, unwrap_or}
 use Rattle.std.proofs.lemmas.Bool.{cases_Bool}
 use Rattle.std.proofs.lemmas.Bool.Decides.{nat_tests}
 use Rattle.std.proofs.lemmas.Slice.Eq.{bytes_eq-Decides}
 use Rattle.rotating_pick.specs.declared.limits.TheConstants.{MAX_PORTS, MAX_ROUNDS}
 use Rattle.line_pace.specs.declared.pace.TheConstants.{MAX_LINE_RATE, MAX_SLOT_MICROS}
-use Rattle.voq_banks.specs.declared.limits.TheConstants.{MAX_DEPTH}
 use Rattle.scheduler_names.specs.declared.names.SchedulerName.{SchedulerName}
 use Rattle.scheduler_names.specs.declared.names.SchedulerName.TheVariants as name
 use Rattle.scheduler_names.specs.Words.{scheduler_named, scheduler_word}
@@ -14,7 +13,7 @@ use Rattle.switch_words.specs.declared.limits.TheConstants.{MAX_WORKERS}
 use Rattle.switch_words.specs.declared.job.Speed.{Speed}
 use Rattle.switch_words.specs.declared.job.Speed.TheVariants.{Untimed, SlotMicros, LineRate}
 use Rattle.switch_words.specs.declared.job.Settings.{Settings}
-use Rattle.switch_words.specs.Limits.{IsUpTo}
+use Rattle.switch_words.specs.Limits.{IsUpTo, most_depth}
 use Rattle.switch_words.specs.Numbers.{number_within}
 use Rattle.switch_words.specs.Options.{rounds, depth, workers, pace_us, line_rate, Switch, value}
 use Rattle.switch_words.specs.Parts.{Parts}
@@ -120,32 +119,35 @@ scheduler_reads (Some text) scheduler (inr (none, is)) = cc
 abbrev pub SayTexts : Parts → List Argument → Type 0
 SayTexts parts arguments = (w : Switch) → given (id_of w) arguments ≡ texts_in parts w
 
-pub settings_are : (parts : Parts) (arguments : List Argument) (settings : Settings) → SayTexts parts arguments → settings_of parts ≡ Some settings
-    → AreSettings arguments settings
+pub settings_are : (long : Bool) (parts : Parts) (arguments : List Argument) (settings : Settings) → SayTexts parts arguments
+    → settings_of long parts ≡ Some settings → AreSettings arguments settings × (long ≡ settings.long)
 unfolding settings_of
-settings_are parts arguments settings say h =
+settings_are long parts arguments settings say h =
     let a = then_some _ (number_given MAX_ROUNDS parts.rounds) settings h in
-    let b = then_some _ (number_given MAX_DEPTH parts.depth) settings a.2 in
+    let b = then_some _ (number_given (most_depth long) parts.depth) settings a.2 in
     let c = then_some _ (number_given MAX_WORKERS parts.workers) settings b.2 in
-    let d = map_some _ (speed_given parts.pace_us parts.line_rate) settings c.2 in
-    subst (AreSettings arguments) d.2 (record {
-      rounds = rw (say (value rounds)) (number_or 4 MAX_ROUNDS _ a.0 (number_is MAX_ROUNDS parts.rounds a.0 a.1));
-      depth = rw (say (value depth)) (number_or MAX_DEPTH MAX_DEPTH _ b.0 (number_is MAX_DEPTH parts.depth b.0 b.1));
-      workers = rw (say (value workers)) (number_or 4 MAX_WORKERS _ c.0 (number_is MAX_WORKERS parts.workers c.0 c.1));
-      speed = rw (say (value pace_us), say (value line_rate)) (given_speed parts.pace_us parts.line_rate d.0 d.1);
-    })
+    let d = map_some _ (speed_given parts.pace_us parts.line_rate) settings c.2 in (
+      subst (AreSettings arguments) d.2 (record {
+        rounds = rw (say (value rounds)) (number_or 4 MAX_ROUNDS _ a.0 (number_is MAX_ROUNDS parts.rounds a.0 a.1));
+        depth = rw (say (value depth)) (number_or (most_depth long) (most_depth long) _ b.0 (number_is (most_depth long) parts.depth b.0 b.1));
+        workers = rw (say (value workers)) (number_or 4 MAX_WORKERS _ c.0 (number_is MAX_WORKERS parts.workers c.0 c.1));
+        speed = rw (say (value pace_us), say (value line_rate)) (given_speed parts.pace_us parts.line_rate d.0 d.1);
+      }),
+      ap (λ (s : Settings). s.long) d.2,
+    )
 
 pub settings_read : (parts : Parts) (arguments : List Argument) (settings : Settings) → SayTexts parts arguments → AreSettings arguments settings
-    → settings_of parts ≡ Some settings
+    → settings_of settings.long parts ≡ Some settings
 unfolding settings_of
 settings_read parts arguments settings say are =
     let a = or_number 4 MAX_ROUNDS (option_to_list parts.rounds) settings.rounds (rw (say (value rounds)) at are.rounds) in
-    let b = or_number MAX_DEPTH MAX_DEPTH (option_to_list parts.depth) settings.depth (rw (say (value depth)) at are.depth) in
+    let most = most_depth settings.long in
+    let b = or_number most most (option_to_list parts.depth) settings.depth (rw (say (value depth)) at are.depth) in
     let c = or_number 4 MAX_WORKERS (option_to_list parts.workers) settings.workers (rw (say (value workers)) at are.workers) in
     let s : speed_given parts.pace_us parts.line_rate ≡ Some settings.speed =
     speed_reads parts.pace_us parts.line_rate settings.speed (rw (say (value pace_us), say (value line_rate)) at are.speed) in
-    rw (is_number MAX_ROUNDS parts.rounds a.0 a.1, is_number MAX_DEPTH parts.depth b.0 b.1, is_number MAX_WORKERS parts.workers c.0 c.1, s)
-    (λ i. Some (record { rounds = a.2 i; depth = b.2 i; workers = c.2 i; speed = settings.speed }))
+    rw (is_number MAX_ROUNDS parts.rounds a.0 a.1, is_number most parts.depth b.0 b.1, is_number MAX_WORKERS parts.workers c.0 c.1, s)
+    (λ i. Some (record { rounds = a.2 i; depth = b.2 i; workers = c.2 i; speed = settings.speed; long = settings.long }))
 
 -- ---- the captures
 

@@ -1,8 +1,7 @@
 -- The grammar of the words: which words are a job, and which job they are.
-use Rattle.std.specs.Prelude.{ℕ, ◌≡◌, ◌⊎◌, Bool, if◌then◌else◌, List, [], ◌∷◌, ◌++◌, length, Option, Some, bytes_eq, codes, option_and_then}
+use Rattle.std.specs.Prelude.{ℕ, ◌≡◌, ◌⊎◌, Bool, true, false, if◌then◌else◌, List, [], ◌∷◌, ◌++◌, length, Option, Some, bytes_eq, codes, option_and_then}
 use Rattle.rotating_pick.specs.declared.limits.TheConstants.{MAX_PORTS, MAX_ROUNDS}
 use Rattle.line_pace.specs.declared.pace.TheConstants.{MAX_LINE_RATE, MAX_SLOT_MICROS}
-use Rattle.voq_banks.specs.declared.limits.TheConstants.{MAX_DEPTH}
 use Rattle.scheduler_names.specs.declared.names.SchedulerName.{SchedulerName}
 use Rattle.scheduler_names.specs.declared.names.SchedulerName.TheVariants.{Islip}
 use Rattle.scheduler_names.specs.Words.{scheduler_word}
@@ -10,7 +9,7 @@ use Rattle.switch_words.specs.declared.limits.TheConstants.{MAX_COUNT, MAX_SEED,
 use Rattle.switch_words.specs.declared.job.Speed.{Speed}
 use Rattle.switch_words.specs.declared.job.Speed.TheVariants.{Untimed, SlotMicros, LineRate}
 use Rattle.switch_words.specs.declared.job.Settings.{Settings}
-use Rattle.switch_words.specs.Limits.{IsUpTo}
+use Rattle.switch_words.specs.Limits.{IsUpTo, most_depth}
 use Rattle.switch_words.specs.Numbers.{number_within}
 use Rattle.switch_words.specs.Options.{Setting, Flag, Switch, value, command_named, option_of}
 use Rattle.switch_words.specs.Options as switch
@@ -74,7 +73,7 @@ IsSpeed paces rates (LineRate mbps) = (paces ≡ []) × IsNumber MAX_LINE_RATE r
 
 pub record AreSettings (arguments : List Argument) (settings : Settings) : Type 0 where
   pub rounds : IsNumberOr 4 MAX_ROUNDS (given (codes "rounds") arguments) settings.rounds
-  pub depth : IsNumberOr MAX_DEPTH MAX_DEPTH (given (codes "depth") arguments) settings.depth
+  pub depth : IsNumberOr (most_depth settings.long) (most_depth settings.long) (given (codes "depth") arguments) settings.depth
   pub workers : IsNumberOr 4 MAX_WORKERS (given (codes "workers") arguments) settings.workers
   pub speed : IsSpeed (given (codes "pace-us") arguments) (given (codes "line-rate") arguments) settings.speed
 
@@ -86,6 +85,7 @@ IsScheduler texts scheduler = (texts ≡ scheduler_word scheduler ∷ []) ⊎ ((
 abbrev pub IsFlag : List Text → Bool → Type 0
 IsFlag texts holds = texts ≡ (if holds then [] ∷ [] else [])
 
+-- the flags of a run; where each slot is reported or the journal is written, the run is no long one
 pub record AreFlags (arguments : List Argument) (job : RunWords) : Type 0 where
   pub slots : IsFlag (given (codes "slots") arguments) job.slots
   pub journal : IsFlag (given (codes "journal") arguments) job.journal
@@ -93,20 +93,23 @@ pub record AreFlags (arguments : List Argument) (job : RunWords) : Type 0 where
   pub queues : IsFlag (given (codes "queues") arguments) job.queues
   pub packets : IsFlag (given (codes "packets") arguments) job.packets
   pub alone : IsFlag (given (codes "alone") arguments) job.alone
+  pub long : IsFlag (given (codes "long") arguments) job.settings.long
+  pub short : (job.slots ≡ true) ⊎ (job.journal ≡ true) → job.settings.long ≡ false
 
 -- the job of a command with these arguments and these names: TABLE PREFIX INPUT.., SEED COUNT PORTS, FILE, or TABLE INPUT..
 abbrev pub IsJob : Text → List Argument → List Text → JobWords → Type 0
 IsJob command arguments names (run job) = (command ≡ codes "run") × AreSettings arguments job.settings
     × IsScheduler (given (codes "scheduler") arguments) job.scheduler × AreFlags arguments job
     × (names ≡ job.table ∷ job.prefix ∷ job.inputs) × IsUpTo MAX_PORTS (length job.inputs)
-IsJob command arguments names (gen job) = (command ≡ codes "gen") × AreSettings arguments job.settings
+IsJob command arguments names (gen job) = (command ≡ codes "gen") × AreSettings arguments job.settings × (job.settings.long ≡ false)
     × IsScheduler (given (codes "scheduler") arguments) job.scheduler
     × ((seed count ports : Text) × (names ≡ seed ∷ count ∷ ports ∷ []) × (number_within 0 MAX_SEED seed ≡ Some job.seed)
     × (number_within 0 MAX_COUNT count ≡ Some job.count) × (number_within 1 MAX_PORTS ports ≡ Some job.ports))
 IsJob command arguments names (check job) =
     (command ≡ codes "check") × IsScheduler (given (codes "scheduler") arguments) job.scheduler × (names ≡ job.file ∷ [])
 IsJob command arguments names (firm job) =
-    (command ≡ codes "firm") × AreSettings arguments job.settings × (names ≡ job.table ∷ job.inputs) × IsUpTo MAX_PORTS (length job.inputs)
+    (command ≡ codes "firm") × AreSettings arguments job.settings × IsFlag (given (codes "long") arguments) job.settings.long
+    × (names ≡ job.table ∷ job.inputs) × IsUpTo MAX_PORTS (length job.inputs)
 
 -- Words and their job: a command; the words of arguments; and perhaps `--`, with further words, which are names whatever
 -- they begin with.
