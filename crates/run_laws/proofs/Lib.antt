@@ -7,7 +7,6 @@ pub mod BusySlots
 pub mod CardWork
 pub mod RunWork
 pub mod RunEnds
-pub mod SlotLimits
 pub mod Limits
 pub mod Rooms
 pub mod FlowSums

@@ -2,7 +2,7 @@
 use Rattle.std.proofs.Common.{◌<◌, ◌≤◌, length, arith}
 use Rattle.switch_plan.specs.GoodPlans.{SwitchPlan, IsGood, IsBurst}
 use Rattle.switch_plan.proofs.RoomBounds.{most_few}
-use Rattle.run_laws.proofs.SlotLimits.{greatest-le, most-halved}
+use Rattle.switch_plan.proofs.SlotLimits.{greatest-le, most-halved}
 
 module _ (plan : SwitchPlan) (good : IsGood plan) (burst : IsBurst plan) where
   pub slots_some : 0 < plan.max_slots

@@ -18,7 +18,7 @@ use Rattle.switch_plan.specs.declared.fault.PlanFault.TheVariants.{MixedLink}
 use Rattle.switch_plan.specs.Traffic.{CaptureFile, file_of, is_nano, port_traffic, pace_of, traffic_of}
 use Rattle.switch_plan.specs.Refusals.{first_link, mixed_links}
 use Rattle.switch_plan.specs.ReadingSteps.{IsCaptureOf}
-use Rattle.switch_plan.specs.CardSteps.{CanBePlanned, traffic_at}
+use Rattle.switch_plan.specs.PortSteps.{CanBePlanned, traffic_at}
 use Rattle.switch_plan.proofs.Leasts.{all_come}
 
 not_found : {A B : Type 0} (f : A → B) (found : Option A) → option_map f found ≡ None → found ≡ None
@@ -26,7 +26,7 @@ not_found f None none = refl
 not_found f (Some x) none = absurd (cc)
 
 -- of a list in which none is found, the first does not pass, and none is found after it
-none_first : {A : Type 0} (passes : Bool) (x : A) (rest : Option A) → (if passes then Some x else rest) ≡ None → (passes ≡ false) × (rest ≡ None)
+pub none_first : {A : Type 0} (passes : Bool) (x : A) (rest : Option A) → (if passes then Some x else rest) ≡ None → (passes ≡ false) × (rest ≡ None)
 none_first true x rest none = absurd (cc)
 none_first false x rest none = (refl, none)
 

@@ -1,5 +1,5 @@
 -- Answers of reading files, the captures among them, and the first fault.
-use Rattle.std.proofs.Common.{◌≡◌, ◌∙◌, ◌⊎◌, ◌≢◌, ℕ, ◌+◌, ◌<◌, ◌≤◌, List, [], ◌∷◌, ◌++◌, length, slice_index_or, ap, sym, subst, arith, inl, inr, length-append}
+use Rattle.std.proofs.Common.{◌≡◌, ◌∙◌, ◌⊎◌, ◌≢◌, ℕ, ◌+◌, ◌^◌, ◌<◌, List, [], ◌∷◌, ◌++◌, length, slice_index_or, ap, sym, subst, arith, inl, inr, length-append}
 use Rattle.std.specs.Prelude.{map, Result, Ok, Err, IfOk, IfErr, All}
 use Rattle.std.proofs.lemmas.List.{get_or_append_left, get_or_default, length-map}
 use Rattle.std.proofs.Math.Seq.{get_or-append_seam}
@@ -76,7 +76,7 @@ no_memory_fault files port fault first memory =
     subst (IsFault (slice_index_or files port [])) memory (first.faulty [])
 
 -- what a reading of a file gave, by what it says of its answer
-pub read_as_given : (bytes : List ℕ) (answer : Result Capture PcapFault) → length bytes ≤ 16777216
+pub read_as_given : (bytes : List ℕ) (answer : Result Capture PcapFault) → length bytes < 2 ^ 32
     → IfOk answer (λ c. IsCapture bytes c.nano c.link (packets_of c)) → IfOk answer (λ c. All (IsWithin c.bytes.items) c.packets.items)
     → IfOk answer (λ c. AreInOrder c.packets.items) → IfOk answer (λ c. c.bytes.items ≡ bytes) → IfErr answer (λ e. (e ≡ OutOfMemory) ⊎ IsFault bytes e)
     → IsReadAs bytes answer
@@ -86,6 +86,6 @@ read_as_given bytes (Ok capture) size found within order kept fault = record {
   order = order;
   kept = kept;
   short = capture_short bytes capture found within;
-  few = capture_few capture.bytes.items capture.packets.items order within (subst (λ (xs : List ℕ). length xs ≤ 16777216) (sym kept) size);
+  few = capture_few capture.bytes.items capture.packets.items order within (subst (λ (xs : List ℕ). length xs < 2 ^ 32) (sym kept) size);
 }
 read_as_given bytes (Err e) size found within order kept fault = fault

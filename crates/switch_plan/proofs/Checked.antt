@@ -23,7 +23,7 @@ use Rattle.switch_plan.proofs.Summing.{packets_at}
 -- ---- the packets of good cards can be counted
 countable : (card : CardPlan) → IsGoodPlan (card_plan_of card) → IsSmallPlan (card_plan_of card) → AreCountable card.packets.items
 countable card good small = record {
-  few = few_packets (card_plan_of card) good small;
+  few = let few = few_packets (card_plan_of card) good small in omega (arith, few);
   forwarded = λ k d inside. (good.packets k (slice_index_or card.packets.items k d) (slice_get-get_or card.packets.items k d inside)).forwarded;
 }
 

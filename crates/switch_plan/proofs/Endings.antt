@@ -1,7 +1,7 @@
 -- What comes of a job whose table and captures were read.
 use Rattle.std.proofs.Common.{◌≡◌, ◌∙◌, ◌⊎◌, ℕ, ◌+◌, ◌<◌, Bool, true, false, List, [], ◌∷◌, length, slice_index_or, Option, None, Some, Result, Ok, Err}
 use Rattle.std.proofs.Common.{if◌then◌else◌, sym, subst, arith, inl, inr}
-use Rattle.std.specs.Prelude.{map, All, option_map, nat_lt, Vec, IfOk, IfErr, IsErrAnd}
+use Rattle.std.specs.Prelude.{map, All, option_map, nat_lt, sum_by, Vec, IfOk, IfErr, IsErrAnd}
 use Rattle.std.specs.Option.{option_or}
 use Rattle.std.proofs.lemmas.List.{same_lists, get_or_default, length-map}
 use Rattle.std.proofs.lemmas.Option.{none-some, same_Some}
@@ -12,17 +12,18 @@ use Rattle.pcap_records.specs.declared.fault.PcapFault.{PcapFault}
 use Rattle.forward_table.specs.declared.route_lines.RouteLine.{RouteLine}
 use Rattle.forward_table.specs.Reading.{reading_of}
 use Rattle.card_core.specs.declared.plan.Planned.{Planned}
-use Rattle.switch_words.specs.declared.job.Speed.{Speed}
 use Rattle.switch_words.specs.declared.job.Settings.{Settings}
 use Rattle.switch_plan.specs.declared.plan.Plan.{Plan}
 use Rattle.switch_plan.specs.declared.fault.PlanFault.{PlanFault}
-use Rattle.switch_plan.specs.declared.fault.PlanFault.TheVariants.{Table, Capture, MixedLink, TooManySlots, TooManyCells, OutOfMemory}
+use Rattle.switch_plan.specs.declared.fault.PlanFault.TheVariants.{Table, Capture, MixedLink, TooManySlots, TooManyPackets, TooManyCells, OutOfMemory}
 use Rattle.switch_plan.specs.Traffic.{CaptureFile, file_of, IsFile, AreFiles, traffic_of}
-use Rattle.switch_plan.specs.Totals.{most_for, slots_of, total_work}
-use Rattle.switch_plan.specs.Refusals.{IsFirstFault, first_link, mixed_links, first_over, over_work, over_burst, AreRead, IsRefusedWhenRead, IsRefusal}
-use Rattle.switch_plan.specs.Refusals.{refusal_of}
+use Rattle.switch_plan.specs.declared.limits.Limits.{Limits}
+use Rattle.switch_plan.specs.Totals.{slots_of, total_work}
+use Rattle.switch_plan.specs.Refusals.{IsFirstFault, first_link, mixed_links, first_over, over_packets, over_work, over_limits}
+use Rattle.switch_plan.specs.Refusals.{AreRead, IsRefusedWhenRead, IsRefusal, Terms, terms_of, limits_for, refusal_of}
 use Rattle.switch_plan.specs.ReadingSteps.{bytes_of_files, IsCaptureOf, AreCapturesOf}
 use Rattle.switch_plan.specs.GoodPlans.{switch_plan_of, IsPlanOf}
+use Rattle.switch_plan.specs.JobSteps.{IsJobPlan}
 use Rattle.switch_plan.proofs.Refused.{refusal_once, no_refusal}
 
 -- ---- captures that were read
@@ -65,6 +66,7 @@ IsLate (Table why) = ⊥
 IsLate (Capture port why) = ⊥
 IsLate (MixedLink first other) = Unit {0}
 IsLate (TooManySlots port slots) = Unit {0}
+IsLate (TooManyPackets packets) = Unit {0}
 IsLate (TooManyCells cells) = Unit {0}
 IsLate OutOfMemory = ⊥
 
@@ -91,89 +93,95 @@ late_over most port (packets ∷ ports) fault is =
 late_work : (most : ℕ) (ports : List (List Planned)) (fault : PlanFault) → over_work most ports ≡ Some fault → IsLate fault
 late_work most ports fault is = late_if (nat_lt most (total_work ports)) (TooManyCells (total_work ports)) fault None tt (λ f e. absurd (none-some f e)) is
 
-late_limits : (ports : List (List Planned)) (fault : PlanFault) → over_burst ports ≡ Some fault → IsLate fault
-late_limits ports fault is =
-    late_either (first_over (most_for (length ports)) 0 ports) (over_work (most_for (length ports)) ports) fault (late_over (most_for (length ports)) 0 ports)
-    (late_work (most_for (length ports)) ports) is
+late_packets : (most : Option ℕ) (ports : List (List Planned)) (fault : PlanFault) → over_packets most ports ≡ Some fault → IsLate fault
+late_packets None ports fault is = absurd (none-some fault is)
+late_packets (Some most) ports fault is =
+    late_if (nat_lt most (sum_by length ports)) (TooManyPackets (sum_by length ports)) fault None tt (λ f e. absurd (none-some f e)) is
 
-late_refusal : (speed : Speed) (table : List RouteLine) (captures : List CaptureFile) (fault : PlanFault)
-    → refusal_of speed table captures ≡ Some fault → IsLate fault
-late_refusal speed table captures fault is =
-    let traffic = traffic_of table (first_link captures) speed captures in
-    late_either (mixed_links captures) (over_burst traffic) fault (mixed_late captures) (late_limits traffic) is
+late_limits : (limits : Limits) (ports : List (List Planned)) (fault : PlanFault) → over_limits limits ports ≡ Some fault → IsLate fault
+late_limits limits ports fault is =
+    late_either (first_over limits.slots 0 ports) (option_or (over_packets limits.packets ports) (over_work limits.cells ports)) fault
+    (late_over limits.slots 0 ports)
+    (λ later. late_either (over_packets limits.packets ports) (over_work limits.cells ports) later (late_packets limits.packets ports)
+    (late_work limits.cells ports)) is
+
+late_refusal : (terms : Terms) (table : List RouteLine) (captures : List CaptureFile) (fault : PlanFault)
+    → refusal_of terms table captures ≡ Some fault → IsLate fault
+late_refusal terms table captures fault is =
+    let traffic = traffic_of table (first_link captures) terms.speed captures in
+    let limits = limits_for terms.long (length captures) in
+    late_either (mixed_links captures) (over_limits limits traffic) fault (mixed_late captures) (late_limits limits traffic) is
   where
     mixed_late : (captures : List CaptureFile) (fault : PlanFault) → mixed_links captures ≡ Some fault → IsLate fault
     mixed_late captures fault is = late_mixed _ _ fault is
 
-refusal_late : (speed : Speed) (text : List ℕ) (files : List (List ℕ)) (fault : PlanFault) → IsLate fault → IsRefusedWhenRead speed text files fault
-    → IsRefusal speed text files fault
-refusal_late speed text files (Table why) late is = absurd late
-refusal_late speed text files (Capture port why) late is = absurd late
-refusal_late speed text files (MixedLink first other) late is = is
-refusal_late speed text files (TooManySlots port slots) late is = is
-refusal_late speed text files (TooManyCells cells) late is = is
-refusal_late speed text files OutOfMemory late is = absurd late
+refusal_late : (terms : Terms) (text : List ℕ) (files : List (List ℕ)) (fault : PlanFault) → IsLate fault → IsRefusedWhenRead terms text files fault
+    → IsRefusal terms text files fault
+refusal_late terms text files (Table why) late is = absurd late
+refusal_late terms text files (Capture port why) late is = absurd late
+refusal_late terms text files (MixedLink first other) late is = is
+refusal_late terms text files (TooManySlots port slots) late is = is
+refusal_late terms text files (TooManyPackets packets) late is = is
+refusal_late terms text files (TooManyCells cells) late is = is
+refusal_late terms text files OutOfMemory late is = absurd late
 
 -- ---- the answers
 -- a refusal that was told is the refusal
-pub told_once : (speed : Speed) (text : List ℕ) (files : List (List ℕ)) (answer fault : PlanFault) → (answer ≡ OutOfMemory)
-    ⊎ IsRefusal speed text files answer → IsRefusal speed text files fault → (answer ≡ OutOfMemory) ⊎ (answer ≡ fault)
-told_once speed text files answer fault (inl memory) is = inl memory
-told_once speed text files answer fault (inr told) is = inr (refusal_once speed text files answer fault told is)
+pub told_once : (terms : Terms) (text : List ℕ) (files : List (List ℕ)) (answer fault : PlanFault) → (answer ≡ OutOfMemory)
+    ⊎ IsRefusal terms text files answer → IsRefusal terms text files fault → (answer ≡ OutOfMemory) ⊎ (answer ≡ fault)
+told_once terms text files answer fault (inl memory) is = inl memory
+told_once terms text files answer fault (inr told) is = inr (refusal_once terms text files answer fault told is)
 
-pub capture_refused : (speed : Speed) (text : List ℕ) (files : List (List ℕ)) (ports : ℕ) (table : List RouteLine) (answer : PlanFault)
+pub capture_refused : (terms : Terms) (text : List ℕ) (files : List (List ℕ)) (ports : ℕ) (table : List RouteLine) (answer : PlanFault)
     → ports ≡ length files → reading_of ports text ≡ Ok table
     → (answer ≡ OutOfMemory) ⊎ ((port : ℕ) × (fault : PcapFault) × (answer ≡ Capture port fault) × IsFirstFault files port fault) → (answer ≡ OutOfMemory)
-    ⊎ IsRefusal speed text files answer
-capture_refused speed text files ports table answer ports_is good (inl memory) = inl memory
-capture_refused speed text files ports table answer ports_is good (inr (port, fault, is, first)) =
-    inr (subst (IsRefusal speed text files) (sym is) (table, subst (λ n. reading_of n text ≡ Ok table) ports_is good, first))
+    ⊎ IsRefusal terms text files answer
+capture_refused terms text files ports table answer ports_is good (inl memory) = inl memory
+capture_refused terms text files ports table answer ports_is good (inr (port, fault, is, first)) =
+    inr (subst (IsRefusal terms text files) (sym is) (table, subst (λ n. reading_of n text ≡ Ok table) ports_is good, first))
 
 module _ (settings : Settings) (text : List ℕ) (files : List (List ℕ)) (ports : ℕ) (table : List RouteLine) (captures : List ACapture)
     (ports_is : ports ≡ length files) (good : reading_of ports text ≡ Ok table) (are : AreCapturesOf files captures) where
   are_read : AreRead text files table (map file_of captures)
   are_read = record { table_is = subst (λ n. reading_of n text ≡ Ok table) ports_is good; captures_are = files_are files captures are }
 
-  planned_from : (plan : Plan)
-      → (refusal_of settings.speed table (map file_of captures) ≡ None)
-      × IsPlanOf settings (map (λ (capture : ACapture). capture.bytes.items) captures) table (map file_of captures) (switch_plan_of plan)
-      → (lines : List RouteLine) × (read : List CaptureFile) × AreRead text files lines read × (refusal_of settings.speed lines read ≡ None)
+  planned_from : (plan : Plan) → IsJobPlan settings table captures plan
+      → (lines : List RouteLine) × (read : List CaptureFile) × AreRead text files lines read × (refusal_of (terms_of settings) lines read ≡ None)
       × IsPlanOf settings files lines read (switch_plan_of plan)
-  planned_from plan (none, is) = (
+  planned_from plan is = (
     table,
     map file_of captures,
     are_read,
-    none,
-    subst (λ fs. IsPlanOf settings fs table (map file_of captures) (switch_plan_of plan)) (kept_bytes files captures are) is,
+    is.allowed,
+    subst (λ fs. IsPlanOf settings fs table (map file_of captures) (switch_plan_of plan)) (kept_bytes files captures are) is.planned,
   )
 
-  refused_from : (fault : PlanFault) → (fault ≡ OutOfMemory) ⊎ (refusal_of settings.speed table (map file_of captures) ≡ Some fault) → (fault ≡ OutOfMemory)
-      ⊎ IsRefusal settings.speed text files fault
+  refused_from : (fault : PlanFault) → (fault ≡ OutOfMemory) ⊎ (refusal_of (terms_of settings) table (map file_of captures) ≡ Some fault)
+      → (fault ≡ OutOfMemory) ⊎ IsRefusal (terms_of settings) text files fault
   refused_from fault (inl memory) = inl memory
   refused_from fault (inr is) =
-      inr (refusal_late settings.speed text files fault (late_refusal settings.speed table (map file_of captures) fault is)
+      inr (refusal_late (terms_of settings) text files fault (late_refusal (terms_of settings) table (map file_of captures) fault is)
       (table, map file_of captures, are_read, is))
 
   -- the same of what was answered
   pub planned_result : (result : Result Plan PlanFault)
-      → IfOk result (λ plan. (refusal_of settings.speed table (map file_of captures) ≡ None)
-      × IsPlanOf settings (map (λ (capture : ACapture). capture.bytes.items) captures) table (map file_of captures) (switch_plan_of plan))
+      → IfOk result (IsJobPlan settings table captures)
       → IfOk result (λ plan. (lines : List RouteLine) × (read : List CaptureFile) × AreRead text files lines read
-      × (refusal_of settings.speed lines read ≡ None) × IsPlanOf settings files lines read (switch_plan_of plan))
+      × (refusal_of (terms_of settings) lines read ≡ None) × IsPlanOf settings files lines read (switch_plan_of plan))
   planned_result (Ok plan) is = planned_from plan is
   planned_result (Err fault) is = is
 
   pub refused_result : (result : Result Plan PlanFault)
-      → IfErr result (λ fault. (fault ≡ OutOfMemory) ⊎ (refusal_of settings.speed table (map file_of captures) ≡ Some fault))
-      → IfErr result (λ fault. (fault ≡ OutOfMemory) ⊎ IsRefusal settings.speed text files fault)
+      → IfErr result (λ fault. (fault ≡ OutOfMemory) ⊎ (refusal_of (terms_of settings) table (map file_of captures) ≡ Some fault))
+      → IfErr result (λ fault. (fault ≡ OutOfMemory) ⊎ IsRefusal (terms_of settings) text files fault)
   refused_result (Ok plan) is = is
   refused_result (Err fault) is = refused_from fault is
 
   -- each refusal is told
   pub every_from : (result : Result Plan PlanFault)
-      → IfOk result (λ plan. (refusal_of settings.speed table (map file_of captures) ≡ None)
-      × IsPlanOf settings (map (λ (capture : ACapture). capture.bytes.items) captures) table (map file_of captures) (switch_plan_of plan))
-      → IfErr result (λ fault. (fault ≡ OutOfMemory) ⊎ (refusal_of settings.speed table (map file_of captures) ≡ Some fault))
-      → (fault : PlanFault) → IsRefusal settings.speed text files fault → IsErrAnd result (λ answer. (answer ≡ OutOfMemory) ⊎ (answer ≡ fault))
-  every_from (Ok plan) planned refused fault is = absurd (no_refusal settings.speed text files table (map file_of captures) fault are_read planned.0 is)
-  every_from (Err answer) planned refused fault is = told_once settings.speed text files answer fault (refused_from answer refused) is
+      → IfOk result (IsJobPlan settings table captures)
+      → IfErr result (λ fault. (fault ≡ OutOfMemory) ⊎ (refusal_of (terms_of settings) table (map file_of captures) ≡ Some fault))
+      → (fault : PlanFault) → IsRefusal (terms_of settings) text files fault → IsErrAnd result (λ answer. (answer ≡ OutOfMemory) ⊎ (answer ≡ fault))
+  every_from (Ok plan) planned refused fault is =
+      absurd (no_refusal (terms_of settings) text files table (map file_of captures) fault are_read planned.allowed is)
+  every_from (Err answer) planned refused fault is = told_once (terms_of settings) text files answer fault (refused_from answer refused) is

@@ -1,16 +1,14 @@
 -- What one pass over the packets of a port finds for each output.
 use Rattle.std.proofs.Common.{◌≡◌, ◌∙◌, ℕ, ◌+◌, ◌*◌, ◌<◌, ◌≤◌, ◌==◌, ◌&&◌, max, true, false, List, [], ◌∷◌, length, take, replicate, slice_index}
-use Rattle.std.proofs.Common.{slice_index_or, slice_set, refl, ap, sym, arith, inl, inr, get_or-set_same, get_or-set_other, length-set}
+use Rattle.std.proofs.Common.{slice_set, refl, ap, sym, arith, inl, inr, get_or-set_same, get_or-set_other, length-set}
 use Rattle.std.specs.Prelude.{fold, sum_by, count_by, if◌then◌else◌, All}
 use Rattle.std.specs.Int.{bit_at}
 use Rattle.std.proofs.lemmas.Bool.{cases_Bool, cases_eq, eq-eqb, ne_eqb}
 use Rattle.std.proofs.lemmas.List.{get_or-replicate, length-take}
 use Rattle.std.proofs.lemmas.List.FromFn.{fill_by_all}
 use Rattle.std.proofs.lemmas.List.Elements.{All-head, All-tail, All-take}
-use Rattle.std.proofs.lemmas.List.Sums.{fold_more}
 use Rattle.rotating_pick.specs.PortSets.{Has}
 use Rattle.card_core.specs.declared.plan.Planned.{Planned}
-use Rattle.card_core.specs.Plans.{no_packet}
 use Rattle.switch_plan.specs.declared.port_rooms.PortRoom.{PortRoom}
 use Rattle.switch_plan.specs.Totals.{goes_to, flow_of, message_length, greatest_message, bytes_to}
 use Rattle.switch_plan.specs.CountingSteps.{IsForwardable, AreCountable}
@@ -152,12 +150,6 @@ room_all_few output ps all =
     let b = few.1 in
     let most = all.few in
     record { bytes = omega arith; messages = omega arith }
-
--- the rooms with a packet more
-pub rooms_next : (output k : ℕ) (rooms more : List PortRoom) (ps : List Planned) → k < length ps → room_at rooms output ≡ room_for output (take k ps)
-    → room_at more output ≡ with_packet output (room_at rooms output) (slice_index_or ps k no_packet) → room_at more output ≡ room_for output (take (k + 1) ps)
-rooms_next output k rooms more ps inside before step =
-    step ∙ ap (λ room. with_packet output room (slice_index_or ps k no_packet)) before ∙ sym (fold_more (with_packet output) no_room ps k no_packet inside)
 
 -- ---- one packet at each of its outputs
 pub goes_where : (output : ℕ) (p : Planned) → Has p.fan output → goes_to output p ≡ true

@@ -8,11 +8,10 @@ use Rattle.pcap_records.proofs.Outcomes.{captures_once, faults_once, no_fault_of
 use Rattle.forward_table.specs.declared.faults.TableFault.{TableFault}
 use Rattle.forward_table.specs.declared.route_lines.RouteLine.{RouteLine}
 use Rattle.forward_table.specs.Reading.{reading_of}
-use Rattle.switch_words.specs.declared.job.Speed.{Speed}
 use Rattle.switch_plan.specs.declared.fault.PlanFault.{PlanFault}
-use Rattle.switch_plan.specs.declared.fault.PlanFault.TheVariants.{Table, Capture, MixedLink, TooManySlots, TooManyCells, OutOfMemory}
+use Rattle.switch_plan.specs.declared.fault.PlanFault.TheVariants.{Table, Capture, MixedLink, TooManySlots, TooManyPackets, TooManyCells, OutOfMemory}
 use Rattle.switch_plan.specs.Traffic.{CaptureFile, IsFile, AreFiles}
-use Rattle.switch_plan.specs.Refusals.{IsFirstFault, AreRead, IsRefusedWhenRead, IsRefusal, refusal_of}
+use Rattle.switch_plan.specs.Refusals.{IsFirstFault, Terms, AreRead, IsRefusedWhenRead, IsRefusal, refusal_of}
 
 file_once : (bytes : List ℕ) (a b : CaptureFile) → IsFile bytes a → IsFile bytes b → a ≡ b
 file_once bytes a b is_a is_b =
@@ -67,34 +66,35 @@ same_port files port later fault other first second =
         ]
 
 -- a job's cause, by where it comes from
-data IsCause (speed : Speed) (text : List ℕ) (files : List (List ℕ)) (fault : PlanFault) : Type 0 where
-  of_table : (why : TableFault) → fault ≡ Table why → reading_of (length files) text ≡ Err why → IsCause speed text files fault
+data IsCause (terms : Terms) (text : List ℕ) (files : List (List ℕ)) (fault : PlanFault) : Type 0 where
+  of_table : (why : TableFault) → fault ≡ Table why → reading_of (length files) text ≡ Err why → IsCause terms text files fault
   of_capture : (port : ℕ) (why : PcapFault) (table : List RouteLine) → fault ≡ Capture port why → reading_of (length files) text ≡ Ok table
-      → IsFirstFault files port why → IsCause speed text files fault
-  of_both : IsRefusedWhenRead speed text files fault → IsCause speed text files fault
+      → IsFirstFault files port why → IsCause terms text files fault
+  of_both : IsRefusedWhenRead terms text files fault → IsCause terms text files fault
 
-module _ (speed : Speed) (text : List ℕ) (files : List (List ℕ)) where
-  cause_of : (fault : PlanFault) → IsRefusal speed text files fault → IsCause speed text files fault
+module _ (terms : Terms) (text : List ℕ) (files : List (List ℕ)) where
+  cause_of : (fault : PlanFault) → IsRefusal terms text files fault → IsCause terms text files fault
   cause_of (Table why) is = of_table why refl is
   cause_of (Capture port why) (table, read, first) = of_capture port why table refl read first
   cause_of (MixedLink a b) is = of_both is
   cause_of (TooManySlots port slots) is = of_both is
+  cause_of (TooManyPackets packets) is = of_both is
   cause_of (TooManyCells cells) is = of_both is
   cause_of OutOfMemory is = absurd is
 
   -- a table and captures that are read are refused for one cause, or for none
   outcome_once : (table other_table : List RouteLine) (captures other_captures : List CaptureFile) (a b : Option PlanFault)
       → AreRead text files table captures → AreRead text files other_table other_captures
-      → refusal_of speed table captures ≡ a → refusal_of speed other_table other_captures ≡ b → a ≡ b
+      → refusal_of terms table captures ≡ a → refusal_of terms other_table other_captures ≡ b → a ≡ b
   outcome_once table other_table captures other_captures a b read other is_a is_b =
       let tables : table ≡ other_table = let p = read.table_is in let q = other.table_is in cc in
       let files_same = files_once files captures other_captures read.captures_are other.captures_are in
-      sym is_a ∙ ap (λ t. refusal_of speed t captures) tables ∙ ap (refusal_of speed other_table) files_same ∙ is_b
+      sym is_a ∙ ap (λ t. refusal_of terms t captures) tables ∙ ap (refusal_of terms other_table) files_same ∙ is_b
 
   not_both : (why : TableFault) (table : List RouteLine) → reading_of (length files) text ≡ Err why → reading_of (length files) text ≡ Ok table → ⊥
   not_both why table bad good = cc
 
-  same_cause : (a b : PlanFault) → IsCause speed text files a → IsCause speed text files b → a ≡ b
+  same_cause : (a b : PlanFault) → IsCause terms text files a → IsCause terms text files b → a ≡ b
   same_cause a b (of_table why is bad) (of_table other is' bad') = cc
   same_cause a b (of_table why is bad) (of_capture port other table is' good first) = absurd (not_both why table bad good)
   same_cause a b (of_table why is bad) (of_both (table, captures, read, refused)) = absurd (not_both why table bad read.table_is)
@@ -113,16 +113,16 @@ module _ (speed : Speed) (text : List ℕ) (files : List (List ℕ)) where
       same_Some a b (outcome_once table table' captures captures' (Some a) (Some b) read read' refused refused')
 
   -- so a refusal is the refusal
-  pub refusal_once : (a b : PlanFault) → IsRefusal speed text files a → IsRefusal speed text files b → a ≡ b
+  pub refusal_once : (a b : PlanFault) → IsRefusal terms text files a → IsRefusal terms text files b → a ≡ b
   refusal_once a b is_a is_b = same_cause a b (cause_of a is_a) (cause_of b is_b)
 
   -- and what can be planned has none
   pub no_refusal : (table : List RouteLine) (captures : List CaptureFile) (fault : PlanFault) → AreRead text files table captures
-      → refusal_of speed table captures ≡ None → IsRefusal speed text files fault → ⊥
+      → refusal_of terms table captures ≡ None → IsRefusal terms text files fault → ⊥
   no_refusal table captures fault read none is = unrefused table captures fault read none (cause_of fault is)
     where
       unrefused : (table : List RouteLine) (captures : List CaptureFile) (fault : PlanFault) → AreRead text files table captures
-          → refusal_of speed table captures ≡ None → IsCause speed text files fault → ⊥
+          → refusal_of terms table captures ≡ None → IsCause terms text files fault → ⊥
       unrefused table captures fault read none (of_table why is bad) = not_both why table bad read.table_is
       unrefused table captures fault read none (of_capture port why table' is good first) =
           no_fault_of_files files captures port why (no_file files captures port first.within read.captures_are.count) read.captures_are first

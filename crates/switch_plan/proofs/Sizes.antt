@@ -1,5 +1,5 @@
 -- How many packets a capture has, and of how many bytes.
-use Rattle.std.proofs.Common.{◌≡◌, ◌∙◌, ℕ, zero, suc, ◌+◌, ◌*◌, ◌<◌, ◌≤◌, Bool, List, [], ◌∷◌, length, take, slice_index_or, ap, sym, subst, arith}
+use Rattle.std.proofs.Common.{◌≡◌, ◌∙◌, ℕ, zero, suc, ◌+◌, ◌*◌, ◌^◌, ◌<◌, ◌≤◌, Bool, List, [], ◌∷◌, length, take, slice_index_or, ap, sym, subst, arith}
 use Rattle.std.specs.Prelude.{map, fold, All}
 use Rattle.std.specs.List.{AllByRecursion}
 use Rattle.std.proofs.lemmas.List.{length-map, length-take-le}
@@ -36,9 +36,9 @@ records_long : (a : ℕ) (packets : List Stored) → a + 16 * length packets ≤
 records_long a [] = omega arith
 records_long a (s ∷ packets) = let more = records_long (a + (16 + s.len)) packets in omega (arith, more)
 
--- and a file of at most 16,777,216 bytes at most 1,048,576 of them
-pub capture_few : (bytes : List ℕ) (packets : List Stored) → AreInOrder packets → All (IsWithin bytes) packets → length bytes ≤ 16777216
-    → length packets ≤ 1048576
+-- and a file of less than 2^32 bytes at most 2^28 of them
+pub capture_few : (bytes : List ℕ) (packets : List Stored) → AreInOrder packets → All (IsWithin bytes) packets → length bytes < 2 ^ 32
+    → length packets ≤ 268435456
 capture_few bytes [] order within size = omega arith
 capture_few bytes (s ∷ packets) order within size =
     let inside : length packets < length (s ∷ packets) = omega arith in

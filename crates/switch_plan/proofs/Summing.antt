@@ -12,7 +12,6 @@ use Rattle.card_core.specs.declared.plan.CardPlan.{CardPlan}
 use Rattle.card_core.specs.Plans.{no_packet}
 use Rattle.switch_plan.specs.Totals.{work_of, total_work, total_aside, bytes_to, goes_to, body_room_for, packet_room_for, slots_of, greatest_slots}
 use Rattle.switch_plan.specs.CountingSteps.{AreCountable, packets_of_cards}
-use Rattle.switch_plan.specs.CardSteps.{is_long}
 use Rattle.switch_plan.proofs.Arriving.{taken_last}
 
 -- a number of `bits` bits has at most as many that are set
@@ -82,10 +81,3 @@ pub slots_last : (packets : List Planned) (k : ℕ) → length packets ≡ k + 1
 slots_last packets k long =
     taken_last (map (λ packet. packet.arrival) packets) k (length-map packets (λ packet. packet.arrival) ∙ long)
     ∙ ap (λ n. n + 1) (get_or-map_same (λ packet. packet.arrival) packets k no_packet)
-
-pub oversize_next : (cards : List CardPlan) (k : ℕ) (card : CardPlan) → k < length cards → card ≡ slice_index_or cards k card
-    → sum_by (count_by is_long) (take (k + 1) (packets_of_cards cards)) ≡ sum_by (count_by is_long)
-    (take k (packets_of_cards cards)) + count_by is_long card.packets.items
-oversize_next cards k card inside is =
-    fold_more (λ a (packets : List Planned). a + count_by is_long packets) 0 (packets_of_cards cards) k card.packets.items (omega (arith, cards_long cards))
-    ∙ ap (λ packets. sum_by (count_by is_long) (take k (packets_of_cards cards)) + count_by is_long packets) (packets_at cards k card is)

@@ -1,23 +1,15 @@
 -- The times of packets, as far as they were looked at.
-use Rattle.std.proofs.Common.{◌≡◌, ◌∙◌, ℕ, ◌+◌, ◌<◌, ◌≤◌, List, [], ◌∷◌, ◌++◌, length, take, drop, slice_index_or, Option, None, ap, sym, arith}
+use Rattle.std.proofs.Common.{◌≡◌, ◌∙◌, ℕ, ◌+◌, ◌<◌, List, length, take, drop, slice_index_or, Option, None, ap, sym, arith}
 use Rattle.std.proofs.Common.{length-take, length-drop}
 use Rattle.std.specs.Prelude.{map, fold}
-use Rattle.std.specs.List.{zip}
 use Rattle.std.proofs.lemmas.List.Sums.{fold_more}
-use Rattle.std.proofs.lemmas.List.{map_more, take_all, length-map}
 use Rattle.std.proofs.lemmas.List.Folds.{fold-map}
-use Rattle.std.proofs.lemmas.Simd.{map-map}
-use Rattle.std.proofs.Math.ListN.{get_or-map as get_or-map_same}
 use Rattle.cell_cutter.specs.Messages.{cells_of_packet}
 use Rattle.line_pace.specs.declared.pace.Stamp.{Stamp}
 use Rattle.pcap_records.specs.declared.capture.Stored.{Stored}
 use Rattle.pcap_records.specs.declared.capture.Capture.{Capture}
-use Rattle.pcap_records.specs.Packets.{Packet, captured_in, packet_in, packets_of, IsWithin}
-use Rattle.pcap_records.specs.declared.link.Link.{Link}
-use Rattle.forward_table.specs.declared.route_lines.RouteLine.{RouteLine}
-use Rattle.card_core.specs.declared.plan.Planned.{Planned}
-use Rattle.switch_plan.specs.Traffic.{planned, unplaced, CaptureFile, file_of, earlier, time_of, stamp_of, least_in, least_time}
-use Rattle.std_lemmas.proofs.Mapping.{at_zip, length_zip, made_next}
+use Rattle.pcap_records.specs.Packets.{captured_in, packet_in, packets_of, IsWithin}
+use Rattle.switch_plan.specs.Traffic.{CaptureFile, file_of, earlier, time_of, stamp_of, least_in, least_time}
 
 -- a packet of no bytes, which no place of a capture has
 abbrev pub no_stored : Stored
@@ -47,21 +39,6 @@ stamp_is bytes s stamp within time cells =
     let all : stamp.cells ≡ cells_of_packet (length (captured_in bytes s)) = cells ∙ ap cells_of_packet (sym (length-captured_in bytes s within)) in
     ap (λ t. record { time = t; cells = stamp.cells }) time ∙ ap (λ n. record { time = time_of (packet_in bytes s); cells = n }) all
 
-pub stamps_next : (bytes : List ℕ) (packets : List Stored) (k : ℕ) (d : Stored) (stamps pushed : List Stamp) (stamp : Stamp) → k < length packets
-    → stamp ≡ stamp_of (packet_in bytes (slice_index_or packets k d)) → pushed ≡ stamps ++ stamp ∷ []
-    → stamps ≡ map (λ (s : Stored). stamp_of (packet_in bytes s)) (take k packets)
-    → pushed ≡ map (λ (s : Stored). stamp_of (packet_in bytes s)) (take (k + 1) packets)
-stamps_next bytes packets k d stamps pushed stamp inside is push so_far =
-    push
-    ∙ ap (λ (front : List Stamp). front ++ stamp ∷ []) so_far
-    ∙ ap (λ (s : Stamp). map (λ (p : Stored). stamp_of (packet_in bytes p)) (take k packets) ++ s ∷ []) is
-    ∙ sym (map_more (λ (s : Stored). stamp_of (packet_in bytes s)) packets k d inside)
-
-pub stamps_all : (bytes : List ℕ) (packets : List Stored) (k : ℕ) (stamps : List Stamp) → length packets ≤ k
-    → stamps ≡ map (λ (s : Stored). stamp_of (packet_in bytes s)) (take k packets) → stamps ≡ map stamp_of (map (packet_in bytes) packets)
-stamps_all bytes packets k stamps all so_far =
-    so_far ∙ ap (map (λ (s : Stored). stamp_of (packet_in bytes s))) (take_all k packets all) ∙ sym (map-map stamp_of (packet_in bytes) packets)
-
 -- the least time of all captures, with one more
 pub least_time_next : (captures : List Capture) (k : ℕ) (capture : Capture) → k < length captures → capture ≡ slice_index_or captures k capture
     → least_time (map file_of (take (k + 1) captures)) ≡ least_in (least_time (map file_of (take k captures))) (packets_of capture)
@@ -71,23 +48,3 @@ least_time_next captures k capture inside is =
     ∙ fold_more step None captures k capture inside
     ∙ ap (λ x. step (fold step None (take k captures)) x) (sym is)
     ∙ ap (λ l. step l capture) (sym (fold-map (λ l (file : CaptureFile). least_in l file.packets) file_of None (take k captures)))
-
--- the packets of a port so far, with one more
-pub planned_next : (table : List RouteLine) (link : Link) (bytes : List ℕ) (stored : List Stored) (slots : List ℕ) (k : ℕ) (made pushed : List Planned)
-    (packet : Planned) → pushed ≡ made ++ packet ∷ []
-    → k < length stored → length slots ≡ length stored
-    → unplaced packet ≡ planned table link (packet_in bytes (slice_index_or stored k no_stored)) (slice_index_or slots k 0)
-    → map unplaced made ≡ take k (map (λ pair. planned table link pair.0 pair.1) (zip (map (packet_in bytes) stored) slots))
-    → map unplaced pushed ≡ take (k + 1) (map (λ pair. planned table link pair.0 pair.1) (zip (map (packet_in bytes) stored) slots))
-planned_next table link bytes stored slots k made pushed packet push inside same is so_far =
-    let f : Packet × ℕ → Planned = λ pair. planned table link pair.0 pair.1 in
-    let packets = map (packet_in bytes) stored in
-    let d : Packet × ℕ = (packet_in bytes no_stored, 0) in
-    let long = length-map stored (packet_in bytes) in
-    let there : slice_index_or (map f (zip packets slots)) k (f d) ≡ planned table link (packet_in bytes (slice_index_or stored k no_stored))
-    (slice_index_or slots k 0) =
-    get_or-map_same f (zip packets slots) k d
-    ∙ ap f (at_zip packets slots k (packet_in bytes no_stored) 0 (omega arith) (omega arith))
-    ∙ ap (λ p. planned table link p (slice_index_or slots k 0)) (get_or-map_same (packet_in bytes) stored k no_stored) in
-    let all : length (map f (zip packets slots)) ≡ length stored = length-map (zip packets slots) f ∙ length_zip packets slots (omega arith) ∙ long in
-    made_next unplaced made pushed (map f (zip packets slots)) packet k (f d) push (is ∙ sym there) (omega arith) so_far

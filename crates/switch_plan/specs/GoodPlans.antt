@@ -1,5 +1,5 @@
 -- The plan of a job: what each card is to send, and what follows from that.
-use Rattle.std.specs.Prelude.{◌≡◌, ℕ, ◌+◌, ◌%◌, ◌≤◌, Bool, false, List, length, map, sum_by, count_by, All, Some, slice_get}
+use Rattle.std.specs.Prelude.{◌≡◌, ℕ, ◌+◌, ◌%◌, ◌^◌, ◌<◌, ◌≤◌, Bool, false, List, length, map, sum_by, count_by, All, Some, IfSome, slice_get}
 use Rattle.rotating_pick.specs.declared.limits.TheConstants.{MAX_PORTS, MAX_ROUNDS}
 use Rattle.pcap_records.specs.declared.link.Link.{Link}
 use Rattle.forward_table.specs.declared.route_lines.RouteLine.{RouteLine}
@@ -9,6 +9,7 @@ use Rattle.switch_words.specs.declared.limits.TheConstants.{MAX_WORKERS}
 use Rattle.switch_words.specs.declared.job.Settings.{Settings}
 use Rattle.switch_words.specs.Limits.{IsUpTo}
 use Rattle.switch_plan.specs.declared.plan.Plan.{Plan}
+use Rattle.switch_plan.specs.declared.limits.Limits.{Limits}
 use Rattle.switch_plan.specs.Traffic.{CaptureFile, is_nano, is_oversize, is_unrouted, unplaced, places_from, traffic_of}
 use Rattle.switch_plan.specs.Totals.{most_for, slots_of, total_work, total_aside, max_slots_of, sizes_for, body_room_for, packet_room_for}
 use Rattle.switch_plan.specs.Refusals.{first_link}
@@ -69,6 +70,20 @@ pub record IsBurst (plan : SwitchPlan) : Type 0 where
   pub slots : All (λ packets. slots_of packets ≤ most_for (length plan.cards)) (packets_in plan)
   pub cells : total_work (packets_in plan) ≤ most_for (length plan.cards)
   pub cards : (port : ℕ) (card : CardPlan) → slice_get plan.cards port ≡ Some card → IsSmallPlan card
+
+-- A plan within these limits: the arrival slots of each port, the packets of all where they are limited, and their cells, counted
+-- for each output.
+pub record IsWithin (limits : Limits) (plan : SwitchPlan) : Type 0 where
+  pub slots : All (λ packets. slots_of packets ≤ limits.slots) (packets_in plan)
+  pub packets : IfSome limits.packets (λ most. sum_by length (packets_in plan) ≤ most)
+  pub cells : total_work (packets_in plan) ≤ limits.cells
+
+-- A plan whose run is counted in numbers of 32 bits: all packets, and the cells that they bring to their outputs, are fewer than
+-- 2^32, and so are the slots of the run.
+pub record IsCountable (plan : SwitchPlan) : Type 0 where
+  pub packets : sum_by length (packets_in plan) < 2 ^ 32
+  pub cells : total_work (packets_in plan) < 2 ^ 32
+  pub slots : plan.max_slots < 2 ^ 32
 
 -- The plan of a table and captures. The cards keep the files' bytes as they came, and each packet names the place
 -- of its own. With the plan being good, this is all of it.

@@ -4,8 +4,8 @@ pub mod Totals
 pub mod Refusals
 pub mod ReadingSteps
 pub mod CountingSteps
-pub mod SizingSteps
 pub mod OutputSteps
 pub mod GoodPlans
-pub mod CardSteps
+pub mod PortSteps
+pub mod JobSteps
 pub mod CheckingSteps

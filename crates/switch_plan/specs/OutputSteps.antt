@@ -3,7 +3,7 @@ use Rattle.std.specs.Prelude.{◌≡◌, ℕ, ◌+◌, ◌*◌, ◌≤◌, max, 
 use Rattle.std.specs.Prelude.{slice_index_or, slice_set}
 use Rattle.cell_cutter.specs.declared.sizes.TheConstants.{MAX_MESSAGE_BYTES}
 use Rattle.reassembly.specs.declared.limits.TheConstants.{FLOWS_PER_INPUT}
-use Rattle.card_core.specs.declared.limits.TheConstants.{MAX_ARRIVALS}
+use Rattle.switch_plan.specs.declared.limits.TheConstants.{MAX_PORT_PACKETS}
 use Rattle.card_core.specs.declared.plan.Planned.{Planned}
 use Rattle.switch_plan.specs.declared.port_rooms.PortRoom.{PortRoom}
 use Rattle.switch_plan.specs.declared.output_rooms.OutputRoom.{OutputRoom}
@@ -41,8 +41,8 @@ room_for output packets = fold (with_packet output) no_room packets
 
 -- so little that no count is too great
 pub record AreFew (room : PortRoom) : Type 0 where
-  pub bytes : room.bytes ≤ MAX_ARRIVALS * MAX_MESSAGE_BYTES
-  pub messages : room.messages ≤ MAX_ARRIVALS
+  pub bytes : room.bytes ≤ MAX_PORT_PACKETS * MAX_MESSAGE_BYTES
+  pub messages : room.messages ≤ MAX_PORT_PACKETS
 
 -- ---- by all ports
 -- what the packets of these ports bring to an output
@@ -50,8 +50,8 @@ pub record IsRoomOf (output : ℕ) (ports : List (List Planned)) (room : OutputR
   pub sizes : room.sizes.items ≡ sizes_for output ports
   pub bytes : room.bytes ≡ body_room_for output ports
   pub messages : room.messages ≡ packet_room_for output ports
-  pub few_bytes : room.bytes ≤ length ports * (MAX_ARRIVALS * MAX_MESSAGE_BYTES)
-  pub few_messages : room.messages ≤ length ports * MAX_ARRIVALS
+  pub few_bytes : room.bytes ≤ length ports * (MAX_PORT_PACKETS * MAX_MESSAGE_BYTES)
+  pub few_messages : room.messages ≤ length ports * MAX_PORT_PACKETS
 
 -- and to each of the outputs
 pub record AreRoomsOf (outputs : ℕ) (ports : List (List Planned)) (rooms : List OutputRoom) : Type 0 where

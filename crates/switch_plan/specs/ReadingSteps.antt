@@ -1,7 +1,6 @@
 -- What was read of files, each by itself: the words of the calls inside.
 use Rattle.std.specs.Prelude.{◌≡◌, ◌⊎◌, ℕ, ◌<◌, ◌≤◌, List, length, map, All, Result, Ok, Err, Vec, slice_index_or}
 use Rattle.cell_cutter.specs.declared.sizes.TheConstants.{MAX_CAPTURED_BYTES}
-use Rattle.line_pace.specs.declared.arriving.TheConstants.{MAX_CAPTURE_PACKETS}
 use Rattle.pcap_records.specs.declared.fault.PcapFault.{PcapFault}
 use Rattle.pcap_records.specs.declared.fault.PcapFault.TheVariants.{OutOfMemory}
 use Rattle.pcap_records.specs.declared.capture.Capture.{Capture}
@@ -10,6 +9,7 @@ use Rattle.pcap_records.specs.Faults.{IsFault}
 use Rattle.forward_table.specs.declared.route_lines.RouteLine.{RouteLine}
 use Rattle.card_core.specs.declared.plan.Planned.{Planned}
 use Rattle.std.specs.List.{zip}
+use Rattle.switch_plan.specs.declared.limits.TheConstants.{MAX_PORT_PACKETS}
 use Rattle.switch_plan.specs.Traffic.{IsFile, file_of, planned, unplaced}
 
 -- the bytes of each file
@@ -23,7 +23,7 @@ pub record IsCaptureOf (bytes : List ℕ) (capture : Capture) : Type 0 where
   pub order : AreInOrder capture.packets.items
   pub kept : capture.bytes.items ≡ bytes
   pub short : All (λ packet. packet.len ≤ MAX_CAPTURED_BYTES) capture.packets.items
-  pub few : length capture.packets.items ≤ MAX_CAPTURE_PACKETS
+  pub few : length capture.packets.items ≤ MAX_PORT_PACKETS
 
 -- what reading a file gave: its capture, its fault, or want of memory
 abbrev pub IsReadAs : List ℕ → Result Capture PcapFault → Type 0

@@ -1,5 +1,5 @@
 -- Why a job is refused before its first slot: the first of these causes, in this order.
-use Rattle.std.specs.Prelude.{◌≡◌, ℕ, ◌+◌, ◌<◌, nat_lt, not, ◌==◌, if◌then◌else◌, List, [], ◌∷◌, length, map, find, Option, None, Some, Ok, Err}
+use Rattle.std.specs.Prelude.{◌≡◌, ℕ, ◌+◌, ◌<◌, nat_lt, not, ◌==◌, Bool, if◌then◌else◌, List, [], ◌∷◌, length, map, find, sum_by, Option, None, Some, Ok, Err}
 use Rattle.std.specs.Prelude.{option_map, slice_index_or}
 use Rattle.std.specs.Option.{option_or}
 use Rattle.pcap_records.specs.declared.fault.PcapFault.{PcapFault}
@@ -11,8 +11,11 @@ use Rattle.forward_table.specs.declared.route_lines.RouteLine.{RouteLine}
 use Rattle.forward_table.specs.Reading.{reading_of}
 use Rattle.card_core.specs.declared.plan.Planned.{Planned}
 use Rattle.switch_words.specs.declared.job.Speed.{Speed}
+use Rattle.switch_words.specs.declared.job.Settings.{Settings}
+use Rattle.switch_plan.specs.declared.limits.Limits.{Limits}
+use Rattle.switch_plan.specs.declared.limits.TheConstants.{MAX_LONG_SLOTS, MAX_LONG_PACKETS, MAX_LONG_CELLS}
 use Rattle.switch_plan.specs.declared.fault.PlanFault.{PlanFault}
-use Rattle.switch_plan.specs.declared.fault.PlanFault.TheVariants.{Table, Capture, MixedLink, TooManySlots, TooManyCells, OutOfMemory}
+use Rattle.switch_plan.specs.declared.fault.PlanFault.TheVariants.{Table, Capture, MixedLink, TooManySlots, TooManyPackets, TooManyCells, OutOfMemory}
 use Rattle.switch_plan.specs.Traffic.{CaptureFile, IsFile, AreFiles, traffic_of}
 use Rattle.switch_plan.specs.Totals.{most_for, slots_of, total_work}
 
@@ -43,27 +46,42 @@ first_over most port (packets ∷ ports) =
 abbrev pub over_work : ℕ → List (List Planned) → Option PlanFault
 over_work most ports = if nat_lt most (total_work ports) then Some (TooManyCells (total_work ports)) else None
 
--- The limits of a job: the most arrival slots of a port, and the most cells of all packets, counted for each output.
-pub record Limits : Type 0 where
-  pub slots : ℕ
-  pub cells : ℕ
+-- all captures together have more packets than this, where there is such a limit
+abbrev pub over_packets : Option ℕ → List (List Planned) → Option PlanFault
+over_packets None ports = None
+over_packets (Some most) ports = if nat_lt most (sum_by length ports) then Some (TooManyPackets (sum_by length ports)) else None
 
--- those of a burst, by the number of ports
+-- the limits of a burst, by the number of ports
 abbrev pub burst_limits : ℕ → Limits
-burst_limits ports = record { slots = most_for ports; cells = most_for ports }
+burst_limits ports = record { slots = most_for ports; packets = None; cells = most_for ports }
 
--- the limits that the packets of all ports pass
+-- those of a long job, for any number of ports
+abbrev pub long_limits : Limits
+long_limits = record { slots = MAX_LONG_SLOTS; packets = Some MAX_LONG_PACKETS; cells = MAX_LONG_CELLS }
+
+-- those of a job that is long or not
+abbrev pub limits_for : Bool → ℕ → Limits
+limits_for long ports = if long then long_limits else burst_limits ports
+
+-- the first limit that the packets of all ports pass: slots, packets, cells
 abbrev pub over_limits : Limits → List (List Planned) → Option PlanFault
-over_limits limits ports = option_or (first_over limits.slots 0 ports) (over_work limits.cells ports)
+over_limits limits ports =
+    option_or (first_over limits.slots 0 ports) (option_or (over_packets limits.packets ports) (over_work limits.cells ports))
 
--- and of a burst of them
-abbrev pub over_burst : List (List Planned) → Option PlanFault
-over_burst ports = over_limits (burst_limits (length ports)) ports
+-- What of a job's settings its refusal goes by: how fast packets come, and whether it is long.
+pub record Terms : Type 0 where
+  pub speed : Speed
+  pub long : Bool
+
+-- those of a job with these settings
+abbrev pub terms_of : Settings → Terms
+terms_of settings = record { speed = settings.speed; long = settings.long }
 
 -- why a job of this table and these captures is refused, where it is
-abbrev pub refusal_of : Speed → List RouteLine → List CaptureFile → Option PlanFault
-refusal_of speed table captures =
-    option_or (mixed_links captures) (over_burst (traffic_of table (first_link captures) speed captures))
+abbrev pub refusal_of : Terms → List RouteLine → List CaptureFile → Option PlanFault
+refusal_of terms table captures =
+    option_or (mixed_links captures)
+    (over_limits (limits_for terms.long (length captures)) (traffic_of table (first_link captures) terms.speed captures))
 
 -- the text and the files are this table and these captures
 pub record AreRead (text : List ℕ) (files : List (List ℕ)) (table : List RouteLine) (captures : List CaptureFile) : Type 0 where
@@ -71,17 +89,18 @@ pub record AreRead (text : List ℕ) (files : List (List ℕ)) (table : List Rou
   pub captures_are : AreFiles files captures
 
 -- a table and captures that can be read, and are refused for this
-abbrev pub IsRefusedWhenRead : Speed → List ℕ → List (List ℕ) → PlanFault → Type 0
-IsRefusedWhenRead speed text files fault =
-    (table : List RouteLine) × (captures : List CaptureFile) × AreRead text files table captures × (refusal_of speed table captures ≡ Some fault)
+abbrev pub IsRefusedWhenRead : Terms → List ℕ → List (List ℕ) → PlanFault → Type 0
+IsRefusedWhenRead terms text files fault =
+    (table : List RouteLine) × (captures : List CaptureFile) × AreRead text files table captures × (refusal_of terms table captures ≡ Some fault)
 
 -- The first cause why a job is refused: a fault of the table, of the first faulty capture, or of what they hold. Want
 -- of memory is none.
-abbrev pub IsRefusal : Speed → List ℕ → List (List ℕ) → PlanFault → Type 0
-IsRefusal speed text files (Table fault) = reading_of (length files) text ≡ Err fault
-IsRefusal speed text files (Capture port fault) =
+abbrev pub IsRefusal : Terms → List ℕ → List (List ℕ) → PlanFault → Type 0
+IsRefusal terms text files (Table fault) = reading_of (length files) text ≡ Err fault
+IsRefusal terms text files (Capture port fault) =
     (table : List RouteLine) × (reading_of (length files) text ≡ Ok table) × IsFirstFault files port fault
-IsRefusal speed text files (MixedLink first other) = IsRefusedWhenRead speed text files (MixedLink first other)
-IsRefusal speed text files (TooManySlots port slots) = IsRefusedWhenRead speed text files (TooManySlots port slots)
-IsRefusal speed text files (TooManyCells cells) = IsRefusedWhenRead speed text files (TooManyCells cells)
-IsRefusal speed text files OutOfMemory = ⊥
+IsRefusal terms text files (MixedLink first other) = IsRefusedWhenRead terms text files (MixedLink first other)
+IsRefusal terms text files (TooManySlots port slots) = IsRefusedWhenRead terms text files (TooManySlots port slots)
+IsRefusal terms text files (TooManyPackets packets) = IsRefusedWhenRead terms text files (TooManyPackets packets)
+IsRefusal terms text files (TooManyCells cells) = IsRefusedWhenRead terms text files (TooManyCells cells)
+IsRefusal terms text files OutOfMemory = ⊥

@@ -136,7 +136,7 @@ fn is_sized(output: u32, card: &CardPlan, cards: &[CardPlan]) -> bool
     requires packets { All AreCountable (packets_of_cards cards.now) }
     ensures { IsTrue result ↔ IsSizedFor (packets_of_cards cards.now) output card.now }
 {
-    u64::from(card.body_room) == body_room(output, cards)
+    card.body_room == body_room(output, cards)
         && u64::from(card.packet_room) == packet_room(output, cards)
         && are_greatest(output, &card.sizes, cards)
 }

@@ -33,6 +33,11 @@ pub enum PlanFault {
         /// Its arrival slots.
         slots: u64,
     },
+    /// The captures have more packets than the limit. Only a long job has this limit.
+    TooManyPackets {
+        /// How many packets.
+        packets: u64,
+    },
     /// The packets have more cells, counted for each output, than the limit for this number of ports.
     TooManyCells {
         /// How many cells.
@@ -51,6 +56,7 @@ impl fmt::Display for PlanFault {
             PlanFault::TooManySlots { port, slots } => {
                 write!(f, "too many slots: port {port} has {slots}")
             }
+            PlanFault::TooManyPackets { packets } => write!(f, "too many packets: {packets}"),
             PlanFault::TooManyCells { cells } => write!(f, "too many cells: {cells}"),
             PlanFault::OutOfMemory => f.write_str("out of memory"),
         }

@@ -1,6 +1,6 @@
 //! The plan of a job.
 
-ghost use Rattle.std.specs.Prelude.{◌≡◌, ◌≢◌, ◌⊎◌, ◌<◌, ◌≤◌, List, length, map, All, vec_len, None, Some, Ok, Err, IfOk, IfErr, IsErrAnd, sum_by, count_by};
+ghost use Rattle.std.specs.Prelude.{◌≡◌, ◌≢◌, ◌⊎◌, ◌^◌, ◌<◌, ◌≤◌, false, List, length, map, All, vec_len, None, Some, Ok, Err, IfOk, IfErr, IsErrAnd};
 ghost use Rattle.forward_table.specs.declared.faults.TableFault.{TableFault};
 ghost use Rattle.forward_table.specs.declared.route_lines.RouteLine.{RouteLine};
 ghost use Rattle.forward_table.specs.Reading.{reading_of};
@@ -8,35 +8,33 @@ ghost use Rattle.forward_table.specs.Routes.{AreRoutesOf};
 ghost use Rattle.switch_words.specs.Limits.{AreWithinLimits};
 ghost use Rattle.switch_plan.specs.declared.fault.PlanFault.{PlanFault};
 ghost use Rattle.switch_plan.specs.Traffic.{CaptureFile, file_of};
-ghost use Rattle.switch_plan.specs.Totals.{most_for, total_aside, greatest_slots};
-ghost use Rattle.switch_plan.specs.Refusals.{AreRead, IsRefusal, refusal_of, over_work};
+ghost use Rattle.switch_plan.specs.Refusals.{AreRead, IsRefusal, refusal_of, terms_of, limits_for};
 ghost use Rattle.switch_plan.specs.ReadingSteps.{bytes_of_files, IsCaptureOf};
-ghost use Rattle.switch_plan.specs.CountingSteps.{AreCountable, packets_of_cards};
-ghost use Rattle.switch_plan.specs.CardSteps.{is_long, IsPlanWith};
-ghost use Rattle.switch_plan.specs.GoodPlans.{switch_plan_of, IsGood, IsBurst, IsPlanOf};
+ghost use Rattle.switch_plan.specs.JobSteps.{AreFit, IsPlanWith, IsJobPlan};
+ghost use Rattle.switch_plan.specs.GoodPlans.{switch_plan_of, IsGood, IsBurst, IsWithin, IsPlanOf};
 
-use crate::cards::cards_of;
 use crate::fault::PlanFault;
-use crate::limits::{MAX_CELLS, most_for};
+use crate::limits::Limits;
 use crate::links::common_link;
-use crate::output_rooms::with_rooms;
+use crate::output_rooms::cards_of;
 use crate::plan::Plan;
+use crate::port_limits::{are_within, greatest_slots, total_aside, total_oversize, total_work};
+use crate::port_plans::{PortPlan, port_plans};
 use crate::reading::read_captures;
-use crate::totals::{greatest_slots, total_aside, total_oversize, total_work};
 use crate::traffic::{is_nano, pace_of};
-use card_core::CardPlan;
 use forward_table::{Table, TableFault, read_table};
 use pcap_records::{Capture, Link};
-use rotating_pick::{MAX_FILE_BYTES, MAX_PORTS};
+use rotating_pick::{MAX_FILE_BYTES, MAX_PORTS, OutOfMemory};
 use std::alloc::Global;
 use std::thread::Threads;
 use switch_words::Settings;
 
-/// What a job of this table and these captures is to do: a capture for each port, 1 to 64 of them, and
-/// each text of at most 16,777,216 bytes. A plan is good, of a burst, and that of the table and the
-/// captures; a fault is the first cause to refuse them, and a job that is to be refused is refused.
+/// What a job of this table and these captures is to do: a table of at most 16,777,216 bytes, and a capture for
+/// each port, 1 to 64 of them, each of at most 4,294,967,295 bytes. A plan is good, within the limits of a long
+/// job or of a burst as the settings say, and that of the table and the captures; a fault is the first cause to
+/// refuse them, and a job that is to be refused is refused.
 ///
-/// Each capture is read by itself, in threads where there are some. The cards keep the bytes of the
+/// Each capture is read and planned by itself, in threads where there are some. The cards keep the bytes of the
 /// captures, of which none are copied.
 pub fn plan<R: Threads + Sync>(
     rt: &R,
@@ -49,18 +47,19 @@ pub fn plan<R: Threads + Sync>(
     requires some { 0 < vec_len captures }
     requires few { vec_len captures ≤ MAX_PORTS }
     requires table { vec_len table ≤ MAX_FILE_BYTES }
-    requires files { All (λ file. vec_len file ≤ MAX_FILE_BYTES) captures.items }
+    requires files { All (λ file. vec_len file < 2 ^ 32) captures.items }
     ensures good { IfOk result (λ plan. IsGood (switch_plan_of plan)) }
-    ensures burst { IfOk result (λ plan. IsBurst (switch_plan_of plan)) }
+    ensures within { IfOk result (λ plan. IsWithin (limits_for settings.now.long (vec_len captures)) (switch_plan_of plan)) }
+    ensures burst { settings.now.long ≡ false → IfOk result (λ plan. IsBurst (switch_plan_of plan)) }
     ensures planned { IfOk result (λ plan. (lines : List RouteLine) × (read : List CaptureFile) × AreRead table.items (bytes_of_files captures) lines read
-        × (refusal_of settings.now.speed lines read ≡ None) × IsPlanOf settings.now (bytes_of_files captures) lines read (switch_plan_of plan)) }
-    ensures refused { IfErr result (λ fault. (fault ≡ PlanFault.OutOfMemory) ⊎ IsRefusal settings.now.speed table.items (bytes_of_files captures) fault) }
-    ensures every_refusal { (fault : PlanFault) → IsRefusal settings.now.speed table.items (bytes_of_files captures) fault
+        × (refusal_of (terms_of settings.now) lines read ≡ None) × IsPlanOf settings.now (bytes_of_files captures) lines read (switch_plan_of plan)) }
+    ensures refused { IfErr result (λ fault. (fault ≡ PlanFault.OutOfMemory) ⊎ IsRefusal (terms_of settings.now) table.items (bytes_of_files captures) fault) }
+    ensures every_refusal { (fault : PlanFault) → IsRefusal (terms_of settings.now) table.items (bytes_of_files captures) fault
         → IsErrAnd result (λ answer. (answer ≡ PlanFault.OutOfMemory) ⊎ (answer ≡ fault)) }
 {
     let table = table_of(alloc, &table, captures.len() as u32)?;
     let captures = read_captures(rt, alloc, captures)?;
-    plan_of(alloc, settings, &table, captures)
+    plan_of(rt, alloc, settings, &table, captures)
 }
 
 // The table of a text, for a switch of `ports` ports.
@@ -91,7 +90,8 @@ fn refusal(fault: TableFault) -> PlanFault
 }
 
 // The plan of a table and captures that were read.
-fn plan_of(
+fn plan_of<R: Threads + Sync>(
+    rt: &R,
     alloc: Global,
     settings: &Settings,
     table: &Table,
@@ -102,43 +102,34 @@ fn plan_of(
     requires few { vec_len captures ≤ MAX_PORTS }
     requires routes { AreRoutesOf (vec_len captures) table.now }
     requires read { All (λ capture. IsCaptureOf capture.bytes.items capture) captures.items }
-    ensures good { IfOk result (λ plan. IsGood (switch_plan_of plan)) }
-    ensures burst { IfOk result (λ plan. IsBurst (switch_plan_of plan)) }
-    ensures planned { IfOk result (λ plan. (refusal_of settings.now.speed table.now (map file_of captures.items) ≡ None)
-        × IsPlanOf settings.now (map (λ capture. capture.bytes.items) captures.items) table.now (map file_of captures.items) (switch_plan_of plan)) }
+    ensures plan { IfOk result (IsJobPlan settings.now table.now captures.items) }
     ensures refused { IfErr result
-        (λ fault. (fault ≡ PlanFault.OutOfMemory) ⊎ (refusal_of settings.now.speed table.now (map file_of captures.items) ≡ Some fault)) }
+        (λ fault. (fault ≡ PlanFault.OutOfMemory) ⊎ (refusal_of (terms_of settings.now) table.now (map file_of captures.items) ≡ Some fault)) }
 {
     let link = common_link(&captures)?;
     let nano = is_nano(&captures);
     let pace = pace_of(settings.speed, &captures);
-    let cards = cards_of(alloc, table, pace, settings.depth, captures)?;
-    plan_with(alloc, settings, nano, link, cards)
+    let limits = Limits::of(settings.long, captures.len());
+    let ports = port_plans(rt, alloc, table, pace, captures)?;
+    are_within(&limits, &ports)?;
+    Ok(plan_with(alloc, settings, nano, link, ports)?)
 }
 
-// The plan of these cards, with their rooms.
+// The plan of these ports. The only error is want of memory.
 fn plan_with(
     alloc: Global,
     settings: &Settings,
     nano: bool,
     link: Link,
-    cards: Vec<CardPlan>,
-) -> Result<Plan, PlanFault>
-    requires few { length cards.items ≤ MAX_PORTS }
-    requires packets { All AreCountable (packets_of_cards cards.items) }
-    requires slots { greatest_slots (packets_of_cards cards.items) ≤ MAX_CELLS }
-    requires long { sum_by (count_by is_long) (packets_of_cards cards.items) ≤ total_aside (packets_of_cards cards.items) }
-    ensures plan { IfOk result (IsPlanWith settings.now nano link cards.items) }
-    ensures over { IfErr result
-        (λ fault. (fault ≡ PlanFault.OutOfMemory) ⊎ (over_work (most_for (length cards.items)) (packets_of_cards cards.items) ≡ Some fault)) }
+    ports: Vec<PortPlan>,
+) -> Result<Plan, OutOfMemory>
+    requires { AreFit ports.items }
+    ensures { IfOk result (IsPlanWith settings.now nano link ports.items) }
 {
-    let cells = total_work(&cards);
-    if cells > most_for(cards.len()) {
-        return Err(PlanFault::TooManyCells { cells });
-    }
-    let slots = greatest_slots(&cards);
-    let oversize = total_oversize(&cards);
-    let aside = total_aside(&cards);
+    let slots = greatest_slots(&ports);
+    let cells = total_work(&ports);
+    let oversize = total_oversize(&ports);
+    let aside = total_aside(&ports);
     Ok(Plan {
         nano,
         link,
@@ -148,6 +139,6 @@ fn plan_with(
         max_slots: (slots + cells + 1) as u32,
         oversize: oversize as u32,
         unrouted: (aside - oversize) as u32,
-        cards: with_rooms(alloc, cards)?,
+        cards: cards_of(alloc, settings.depth, ports)?,
     })
 }

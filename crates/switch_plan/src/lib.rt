@@ -2,7 +2,6 @@
 //! captures, and the first reason to refuse it.
 #![tactic(auto)]
 
-mod cards;
 mod checking;
 mod fault;
 pub mod jobs;
@@ -13,16 +12,19 @@ mod made;
 mod made_capture;
 mod made_table;
 mod output_rooms;
-mod packets;
 mod plan;
+mod port_limits;
+mod port_plans;
 mod port_rooms;
 mod reading;
 mod rooms;
-mod slots;
 mod totals;
 mod traffic;
 
 pub use fault::PlanFault;
-pub use limits::{MAX_CELLS, MAX_CELLS_OF_MANY, limits_are};
+pub use limits::{
+    Limits, MAX_CELLS, MAX_CELLS_OF_MANY, MAX_LONG_CELLS, MAX_LONG_PACKETS, MAX_LONG_SLOTS,
+    limits_are,
+};
 pub use made::{Made, made_input};
 pub use plan::Plan;

@@ -10,7 +10,7 @@ pub struct Plan {
     pub link: Link,
     /// Rounds of request, grant and accept in a slot, 1 to 64.
     pub rounds: u32,
-    /// The most cells of a queue, 1 to 131,072.
+    /// The most cells of a queue: 1 to 131,072, or to 1,073,741,824 for a long job.
     pub depth: u32,
     /// Workers, 1 to 32.
     pub workers: u32,

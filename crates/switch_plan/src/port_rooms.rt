@@ -1,10 +1,13 @@
-ghost use Rattle.std.specs.Prelude.{◌≡◌, ℕ, ◌<◌, ◌≤◌, max, slice_index, slice_set};
+ghost use Rattle.std.specs.Prelude.{◌≡◌, ℕ, ◌<◌, ◌≤◌, List, [], ◌∷◌, ◌++◌, max, slice_index, slice_set};
+ghost use Rattle.card_core.specs.declared.plan.Planned.{Planned as APlanned};
 ghost use Rattle.switch_plan.specs.CountingSteps.{IsForwardable, AreCountable};
-ghost use Rattle.switch_plan.specs.OutputSteps.{room_at, with_message, with_packet, room_for, AreFew};
+ghost use Rattle.switch_plan.specs.OutputSteps.{room_at, with_message, with_packet, AreFew};
+ghost use Rattle.switch_plan.specs.PortSteps.{IsBroughtBy, HasRoom};
 
 use crate::rooms::flow_of;
+use crate::totals::work_of;
 use card_core::Planned;
-use cell_cutter::{MAX_MESSAGE_BYTES, MESSAGE_HEADER_BYTES};
+use cell_cutter::{MAX_FORWARDED_BYTES, MAX_MESSAGE_BYTES, MESSAGE_HEADER_BYTES};
 use reassembly::FLOWS_PER_INPUT;
 use rotating_pick::{MAX_PORTS, PORT_COUNT, is_empty, lowest, without};
 
@@ -17,21 +20,61 @@ pub(crate) struct PortRoom {
     pub(crate) messages: u64,
 }
 
-/// What the packets of a port bring to each output, found in one pass over them.
-pub(crate) fn port_rooms(packets: &[Planned]) -> [PortRoom; PORT_COUNT]
+/// What the packets of a port bring to the outputs.
+#[derive(Clone, Copy)]
+pub(crate) struct Brought {
+    /// To each output.
+    pub(crate) rooms: [PortRoom; PORT_COUNT],
+    /// How many cells, counted for each output.
+    pub(crate) work: u64,
+    /// How many packets go nowhere.
+    pub(crate) aside: u64,
+    /// How many of these are too long to be forwarded.
+    pub(crate) oversize: u64,
+}
+
+/// What the packets of a port bring, found in one pass over them.
+pub(crate) fn brought_by(packets: &[Planned]) -> Brought
     requires { AreCountable packets.now }
-    ensures { (output : ℕ) → output < MAX_PORTS → room_at result output ≡ room_for output packets.now }
+    ensures { IsBroughtBy packets.now result }
 {
-    let none = PortRoom {
-        sizes: [0; FLOWS_PER_INPUT],
-        bytes: 0,
-        messages: 0,
-    };
-    let mut rooms = [none; PORT_COUNT];
+    let mut brought = Brought::nothing();
     for packet in packets {
-        add_packet(&mut rooms, packet);
+        brought.add(packet);
     }
-    rooms
+    brought
+}
+
+impl Brought {
+    // What no packet brings.
+    fn nothing() -> Brought
+        ensures { IsBroughtBy [] result }
+    {
+        let none = PortRoom {
+            sizes: [0; FLOWS_PER_INPUT],
+            bytes: 0,
+            messages: 0,
+        };
+        Brought {
+            rooms: [none; PORT_COUNT],
+            work: 0,
+            aside: 0,
+            oversize: 0,
+        }
+    }
+
+    // Takes a packet into account.
+    fn add(&mut self, packet: &Planned)
+        requires packet { IsForwardable packet.now }
+        requires few { HasRoom self.old }
+        ensures { (packets : List APlanned) → IsBroughtBy packets self.old → IsBroughtBy (packets ++ packet.now ∷ []) self.new }
+    {
+        let oversize = packet.len as usize > MAX_FORWARDED_BYTES;
+        self.oversize += u64::from(oversize);
+        self.aside += u64::from(packet.fan == 0);
+        self.work += work_of(packet);
+        add_packet(&mut self.rooms, packet);
+    }
 }
 
 // Takes a packet into account at each of its outputs.

@@ -1,11 +1,11 @@
-ghost use Rattle.std.specs.Prelude.{◌≡◌, ◌≢◌, ◌⊎◌, ℕ, ◌≤◌, List, All, vec_len, IfOk, IfErr};
+ghost use Rattle.std.specs.Prelude.{◌≡◌, ◌≢◌, ◌⊎◌, ℕ, ◌^◌, ◌<◌, ◌≤◌, List, All, vec_len, IfOk, IfErr};
 ghost use Rattle.pcap_records.specs.declared.fault.PcapFault.{PcapFault};
 ghost use Rattle.switch_plan.specs.Refusals.{IsFirstFault};
 ghost use Rattle.switch_plan.specs.ReadingSteps.{bytes_of_files, IsReadAs, AreReadAs, AreCapturesOf};
 
 use crate::fault::PlanFault;
 use pcap_records::{Capture, PcapFault, read_capture};
-use rotating_pick::{MAX_FILE_BYTES, MAX_PORTS};
+use rotating_pick::MAX_PORTS;
 use std::alloc::{AllocError, Global};
 use std::thread;
 use std::thread::Threads;
@@ -18,7 +18,7 @@ pub(crate) fn read_captures<R: Threads + Sync>(
     files: Vec<Vec<u8>>,
 ) -> Result<Vec<Capture>, PlanFault>
     requires few { vec_len files ≤ MAX_PORTS }
-    requires sizes { All (λ file. vec_len file ≤ MAX_FILE_BYTES) files.items }
+    requires sizes { All (λ file. vec_len file < 2 ^ 32) files.items }
     ensures read { IfOk result (λ captures. AreCapturesOf (bytes_of_files files) captures.items) }
     ensures refused { IfErr result
         (λ answer. (answer ≡ PlanFault.OutOfMemory)
@@ -33,7 +33,7 @@ fn read_each<R: Threads + Sync>(
     alloc: Global,
     files: Vec<Vec<u8>>,
 ) -> Result<Vec<Result<Capture, PcapFault>>, AllocError>
-    requires sizes { All (λ file. vec_len file ≤ MAX_FILE_BYTES) files.items }
+    requires sizes { All (λ file. vec_len file < 2 ^ 32) files.items }
     ensures { IfOk result (λ answers. AreReadAs (bytes_of_files files) answers.items) }
 {
     thread::map_vec(rt, files, &|file| read_one(alloc, file))
@@ -41,7 +41,7 @@ fn read_each<R: Threads + Sync>(
 
 // Reads a file.
 fn read_one(alloc: Global, file: Vec<u8>) -> Result<Capture, PcapFault>
-    requires { vec_len file ≤ MAX_FILE_BYTES }
+    requires { vec_len file < 2 ^ 32 }
     ensures { IsReadAs file.items result }
 {
     read_capture(alloc, file)

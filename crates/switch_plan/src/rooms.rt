@@ -4,16 +4,16 @@ ghost use Rattle.card_core.specs.declared.plan.CardPlan.{CardPlan as ACardPlan};
 ghost use Rattle.switch_plan.specs.Totals.{most_for, total_work, goes_to, bytes_to, flow_of, message_length, greatest_message, sizes_for, body_room_for};
 ghost use Rattle.switch_plan.specs.Totals.{packet_room_for};
 ghost use Rattle.switch_plan.specs.CountingSteps.{IsForwardable, AreCountable, packets_of_cards};
-ghost use Rattle.switch_plan.specs.SizingSteps.{IsSized};
 
-use card_core::{CardPlan, MAX_ARRIVALS, Planned};
+use crate::limits::MAX_PORT_PACKETS;
+use card_core::{CardPlan, Planned};
 use cell_cutter::{MAX_FORWARDED_BYTES, MAX_MESSAGE_BYTES, MESSAGE_HEADER_BYTES};
 use reassembly::FLOWS_PER_INPUT;
 use rotating_pick::{MAX_PORTS, OutOfMemory, contains, only};
 use std::alloc::Global;
 
 // The most bytes that the packets of a port bring to an output.
-const MAX_PORT_BYTES: u64 = MAX_ARRIVALS as u64 * MAX_MESSAGE_BYTES as u64;
+const MAX_PORT_BYTES: u64 = MAX_PORT_PACKETS as u64 * MAX_MESSAGE_BYTES as u64;
 
 // Whether the packet goes to this output.
 fn goes_to(output: u32, packet: &Planned) -> bool
@@ -68,9 +68,9 @@ pub(crate) fn body_room(output: u32, cards: &[CardPlan]) -> u64
 // How many packets of a port go to an output.
 fn port_messages(output: u32, packets: &[Planned]) -> u64
     requires output { output < MAX_PORTS }
-    requires packets { length packets.now ≤ MAX_ARRIVALS }
+    requires packets { length packets.now ≤ MAX_PORT_PACKETS }
     ensures value { result ≡ count_by (goes_to output) packets.now }
-    ensures few { result ≤ MAX_ARRIVALS }
+    ensures few { result ≤ MAX_PORT_PACKETS }
 {
     let mut messages = 0;
     for packet in packets {

@@ -1,20 +1,20 @@
 ghost use Rattle.std.specs.Prelude.{◌≡◌, ◌≢◌, ◌==◌, ◌*◌, ◌<◌, ◌≤◌, length, All, sum_by, count_by};
 ghost use Rattle.switch_plan.specs.Totals.{work_of, total_work, total_aside, slots_of, greatest_slots};
 ghost use Rattle.switch_plan.specs.CountingSteps.{IsForwardable, AreCountable, packets_of_cards};
-ghost use Rattle.switch_plan.specs.CardSteps.{is_long};
 
-use card_core::{CardPlan, MAX_ARRIVALS, Planned};
-use cell_cutter::{MAX_FORWARDED_BYTES, MAX_FORWARDED_CELLS, cells_of};
+use crate::limits::MAX_PORT_PACKETS;
+use card_core::{CardPlan, Planned};
+use cell_cutter::{MAX_FORWARDED_CELLS, cells_of};
 use rotating_pick::{MAX_PORTS, is_empty};
 
 // The most cells that a packet brings to all outputs.
 const MAX_WORK: u64 = MAX_FORWARDED_CELLS as u64 * MAX_PORTS as u64;
 
 // The most that the packets of a port bring.
-const MAX_PORT_WORK: u64 = MAX_ARRIVALS as u64 * MAX_WORK;
+const MAX_PORT_WORK: u64 = MAX_PORT_PACKETS as u64 * MAX_WORK;
 
-// The cells that a packet brings to its outputs.
-fn work_of(packet: &Planned) -> u64
+/// The cells that a packet brings to its outputs.
+pub(crate) fn work_of(packet: &Planned) -> u64
     requires { IsForwardable packet.now }
     ensures value { result ≡ work_of packet.now }
     ensures few { result ≤ MAX_WORK }
@@ -53,9 +53,9 @@ pub(crate) fn total_work(cards: &[CardPlan]) -> u64
 
 // How many packets of a port go nowhere.
 fn port_aside(packets: &[Planned]) -> u64
-    requires { length packets.now ≤ MAX_ARRIVALS }
+    requires { length packets.now ≤ MAX_PORT_PACKETS }
     ensures value { result ≡ count_by (λ packet. packet.fan == 0) packets.now }
-    ensures few { result ≤ MAX_ARRIVALS }
+    ensures few { result ≤ MAX_PORT_PACKETS }
 {
     let mut aside = 0;
     for packet in packets {
@@ -77,34 +77,6 @@ pub(crate) fn total_aside(cards: &[CardPlan]) -> u64
         aside += port_aside(&card.packets);
     }
     aside
-}
-
-// How many packets of a port are too long to be forwarded.
-fn port_oversize(packets: &[Planned]) -> u64
-    requires { length packets.now ≤ MAX_ARRIVALS }
-    ensures value { result ≡ count_by is_long packets.now }
-    ensures few { result ≤ MAX_ARRIVALS }
-{
-    let mut oversize = 0;
-    for packet in packets {
-        if packet.len as usize > MAX_FORWARDED_BYTES {
-            oversize += 1;
-        }
-    }
-    oversize
-}
-
-/// How many packets of all cards are too long to be forwarded.
-pub(crate) fn total_oversize(cards: &[CardPlan]) -> u64
-    requires few { length cards.now ≤ MAX_PORTS }
-    requires packets { All AreCountable (packets_of_cards cards.now) }
-    ensures { result ≡ sum_by (count_by is_long) (packets_of_cards cards.now) }
-{
-    let mut oversize = 0;
-    for card in cards {
-        oversize += port_oversize(&card.packets);
-    }
-    oversize
 }
 
 // The arrival slots of a port: the last packet's and one.

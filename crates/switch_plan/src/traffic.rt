@@ -7,8 +7,6 @@ ghost use Rattle.switch_plan.specs.Traffic.{file_of, time_of, stamp_of, least_in
 use cell_cutter::{MAX_CAPTURED_BYTES, cells_of};
 use line_pace::{Pace, Stamp};
 use pcap_records::{Capture, Stored};
-use rotating_pick::OutOfMemory;
-use std::alloc::Global;
 use switch_words::Speed;
 
 /// Nanoseconds of a second.
@@ -78,8 +76,8 @@ pub(crate) fn is_nano(captures: &[Capture]) -> bool
     captures.iter().any(|capture| capture.nano)
 }
 
-// When a packet came, and how long it occupies the line.
-fn stamp_of(packet: &Stored) -> Stamp
+/// When a packet came, and how long it occupies the line.
+pub(crate) fn stamp_of(packet: &Stored) -> Stamp
     requires { packet.now.len ≤ MAX_CAPTURED_BYTES }
     ensures time { (bytes : List ℕ) → result.time ≡ time_of (packet_in bytes packet.now) }
     ensures early { result.time < 2 ^ 62 }
@@ -89,18 +87,4 @@ fn stamp_of(packet: &Stored) -> Stamp
         time: time_of(packet),
         cells: cells_of(packet.len),
     }
-}
-
-/// When the packets of a capture came, and how long each occupies the line.
-pub(crate) fn stamps(alloc: Global, packets: &[Stored]) -> Result<Vec<Stamp>, OutOfMemory>
-    requires { All (λ packet. packet.len ≤ MAX_CAPTURED_BYTES) packets.now }
-    ensures stamps { (bytes : List ℕ) → All (IsWithin bytes) packets.now
-        → IfOk result (λ stamps. stamps.items ≡ map stamp_of (map (packet_in bytes) packets.now)) }
-    ensures early { IfOk result (λ stamps. All (λ stamp. stamp.time < 2 ^ 62) stamps.items) }
-{
-    let mut stamps = Vec::with_capacity(alloc, packets.len())?;
-    for packet in packets {
-        stamps.push(stamp_of(packet))?;
-    }
-    Ok(stamps)
 }

@@ -1,9 +1,12 @@
 use Rattle.std.proofs.Common.{◌≡◌, ◌∙◌, ℕ, List, length, Ok, ap, sym, subst, arith}
 use Rattle.std.specs.Prelude.{vec_len}
-use Rattle.std.proofs.lemmas.Result.{err_from_is_err_and}
+use Rattle.std.proofs.lemmas.Result.{err_from_is_err_and, IfOk-weaker}
 use Rattle.forward_table.specs.Reading.{reading_of}
 use Rattle.forward_table.specs.Routes.{AreRoutesOf}
+use Rattle.switch_plan.specs.Refusals.{terms_of, limits_for}
 use Rattle.switch_plan.specs.ReadingSteps.{bytes_of_files}
+use Rattle.switch_plan.specs.GoodPlans.{switch_plan_of, IsGood, IsBurst, IsWithin}
+use Rattle.switch_plan.specs.JobSteps.{IsJobPlan}
 use Rattle.switch_plan.proofs.Endings.{own_bytes, files_long, told_once, capture_refused, planned_result, refused_result, every_from}
 use Rattle.switch_plan.proofs.jobs.plan.Goals as goal
 
@@ -19,11 +22,11 @@ returns-in_err-captures-clause-every_refusal g c fault is =
     let answer = c.in_err-captures.field-0.0 in
     let p = err_from_is_err_and c.from_residual-in_err-captures.result c.from_residual-in_err-captures.ensures.1 in
     rw (p.1, p.2)
-    (told_once settings.speed text files answer fault
-    (capture_refused settings.speed text files ports table answer ports_is good c.in_err-captures.ensures.refused) is)
+    (told_once (terms_of settings) text files answer fault
+    (capture_refused (terms_of settings) text files ports table answer ports_is good c.in_err-captures.ensures.refused) is)
 
 pub plan_of-requires-clause-routes : goal.plan_of-requires-clause-routes
-plan_of-requires-clause-routes g c =
+plan_of-requires-clause-routes g c κs alive =
     let captures = c.in_ok-captures.captures in
     let read = c.in_ok-captures.ensures.read.count in
     let same : c.len.result ≡ vec_len captures = let ok = c.args.captures.ok.0 in let read_ok = captures.ok.0 in let len = c.len.ensures in
@@ -31,8 +34,27 @@ plan_of-requires-clause-routes g c =
     subst (λ n. AreRoutesOf n c.in_ok-table.table) same c.in_ok-table.ensures.routes
 
 pub plan_of-requires-clause-read : goal.plan_of-requires-clause-read
-plan_of-requires-clause-read g c =
+plan_of-requires-clause-read g c κs alive =
     own_bytes (bytes_of_files c.args.captures) c.in_ok-captures.captures.items c.in_ok-captures.ensures.read
+
+pub returns-clause-good : goal.returns-clause-good
+returns-clause-good g c =
+    IfOk-weaker c.plan_of.result (IsJobPlan c.args.settings.now c.in_ok-table.table c.in_ok-captures.captures.items) (λ plan. IsGood (switch_plan_of plan))
+    (λ plan is. is.good) c.plan_of.ensures.plan
+
+pub returns-clause-within : goal.returns-clause-within
+returns-clause-within g c =
+    let captures = c.in_ok-captures.captures.items in
+    let read = c.in_ok-captures.ensures.read.count in
+    let same : length captures ≡ vec_len c.args.captures = let ok = c.args.captures.ok.0 in omega (arith, read, ok, files_long c.args.captures) in
+    IfOk-weaker c.plan_of.result (IsJobPlan c.args.settings.now c.in_ok-table.table captures)
+    (λ plan. IsWithin (limits_for c.args.settings.now.long (vec_len c.args.captures)) (switch_plan_of plan))
+    (λ plan is. subst (λ ports. IsWithin (limits_for c.args.settings.now.long ports) (switch_plan_of plan)) same is.within) c.plan_of.ensures.plan
+
+pub returns-clause-burst : goal.returns-clause-burst
+returns-clause-burst g c short =
+    IfOk-weaker c.plan_of.result (IsJobPlan c.args.settings.now c.in_ok-table.table c.in_ok-captures.captures.items) (λ plan. IsBurst (switch_plan_of plan))
+    (λ plan is. is.burst short) c.plan_of.ensures.plan
 
 pub returns-clause-planned : goal.returns-clause-planned
 returns-clause-planned g c =
@@ -45,7 +67,7 @@ returns-clause-planned g c =
     let good : reading_of ports text ≡ Ok table = ap (λ (xs : List ℕ). reading_of ports xs) (sym c.deref.ensures.value) ∙ c.in_ok-table.ensures.table in
     let captures = c.in_ok-captures.captures.items in
     let are = c.in_ok-captures.ensures.read in
-    planned_result settings text files ports table captures ports_is good are c.plan_of.result c.plan_of.ensures.planned
+    planned_result settings text files ports table captures ports_is good are c.plan_of.result c.plan_of.ensures.plan
 
 pub returns-clause-refused : goal.returns-clause-refused
 returns-clause-refused g c =
@@ -71,4 +93,4 @@ returns-clause-every_refusal g c fault is =
     let good : reading_of ports text ≡ Ok table = ap (λ (xs : List ℕ). reading_of ports xs) (sym c.deref.ensures.value) ∙ c.in_ok-table.ensures.table in
     let captures = c.in_ok-captures.captures.items in
     let are = c.in_ok-captures.ensures.read in
-    every_from settings text files ports table captures ports_is good are c.plan_of.result c.plan_of.ensures.planned c.plan_of.ensures.refused fault is
+    every_from settings text files ports table captures ports_is good are c.plan_of.result c.plan_of.ensures.plan c.plan_of.ensures.refused fault is

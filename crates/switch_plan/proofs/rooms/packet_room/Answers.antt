@@ -8,7 +8,7 @@ use Rattle.switch_plan.proofs.rooms.packet_room.Goals as goal
 
 pub port_messages-messages-requires-clause-packets : goal.port_messages-messages-requires-clause-packets
 port_messages-messages-requires-clause-packets c =
-    subst (λ (xs : List Planned). length xs ≤ 131072) (sym c.deref.ensures.value)
+    subst (λ (xs : List Planned). length xs ≤ 268435456) (sym c.deref.ensures.value)
     (countable_at c.args.cards.now c.loop-card.card-index c.card-item.result c.requires.packets c.loop-card-test.true c.card-item.is).few
 
 pub loop-card-preserved : goal.loop-card-preserved
