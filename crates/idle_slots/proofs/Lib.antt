@@ -4,3 +4,4 @@ mod StillQueues
 pub mod IdleRuns
 pub mod SkippedSlots
 pub mod LaterArrivals
+pub mod Gaps

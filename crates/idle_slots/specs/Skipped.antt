@@ -1,5 +1,6 @@
--- What a run has done so far: the cells that crossed, the packets that were admitted and dropped, and the waits.
-use Rattle.std.specs.Prelude.{◌≡◌, ℕ, ◌<◌, map}
+-- What a run has done so far: the cells that crossed, the packets that were admitted and dropped, and the waits; and slots that
+-- can be skipped.
+use Rattle.std.specs.Prelude.{◌≡◌, ℕ, ◌+◌, ◌<◌, map}
 use Rattle.eslip_rounds.specs.Schedulers.{Scheduler}
 use Rattle.service_bound.specs.Waits.{noted_of, longest_wait}
 use Rattle.card_core.specs.Queues.{admitted, dropped}
@@ -7,6 +8,7 @@ use Rattle.switch_plan.specs.GoodPlans.{SwitchPlan}
 use Rattle.run_laws.specs.Runs.{ports_of, card_at, parts_under}
 use Rattle.run_laws.specs.Crossings.{cells_under}
 use Rattle.run_laws.specs.Sums.{schedule_under}
+use Rattle.idle_slots.specs.Idle.{NoneArrive, AreIdle}
 
 -- how many packets of port i were admitted in the first slots of the run
 abbrev pub admitted_before : Scheduler → SwitchPlan → ℕ → ℕ → ℕ
@@ -27,3 +29,13 @@ pub record AreAsAfter (scheduler : Scheduler) (plan : SwitchPlan) (slots u : ℕ
   pub admits : (i : ℕ) → i < ports_of plan → admitted_before scheduler plan i u ≡ admitted_before scheduler plan i slots
   pub drops : (i : ℕ) → i < ports_of plan → dropped_before scheduler plan i u ≡ dropped_before scheduler plan i slots
   pub waits : (level : ℕ) → longest_before scheduler plan level u ≡ longest_before scheduler plan level slots
+
+-- Between slot `slot` of the run and slot `next` nothing happens: no input asked for anything in the slot before them, which the
+-- run has, and no packet arrives in them.
+pub record IsGap (scheduler : Scheduler) (plan : SwitchPlan) (slot next : ℕ) : Type 0 where
+  pub before : ℕ
+  pub begins : slot ≡ before + 1
+  pub some : before < next
+  pub none : NoneArrive plan slot next
+  pub idle : AreIdle scheduler plan before next
+  pub after : AreAsAfter scheduler plan slot next

@@ -2,6 +2,7 @@ ghost use Rattle.std.specs.Prelude.{◌≡◌, ◌<◌, ◌+◌, ℕ, Bool, fals
 ghost use Rattle.eslip_rounds.specs.Schedulers.{Scheduler, IsScheduler};
 ghost use Rattle.switch_plan.specs.GoodPlans.{SwitchPlan};
 ghost use Rattle.run_laws.specs.Ends.{IsLengthUnder};
+ghost use Rattle.idle_slots.specs.Skipped.{IsGap};
 ghost use Rattle.run_sinks.specs.NotedSlots.{IsRunSlot};
 
 use crossbar::Post;
@@ -20,12 +21,19 @@ pub trait SlotSink {
     /// Whether slots have to be noted where this is wanted.
     ghost wants_any: { Self.Wanted → Bool };
 
+    /// Whether slots in which nothing happens have to be noted one by one where this is wanted.
+    ghost wants_each: { Self.Wanted → Bool };
+
     /// The first slots of the plan's run under the scheduler, so many, are noted, and no others.
     ghost noted: { Self → Scheduler → SwitchPlan → ℕ → Type 0 };
 
     /// Whether slots have to be noted. Where not, a slot that was not noted counts as noted.
     fn wants_slots(&self) -> bool
         ensures { result ≡ wants_any (wanted self.now) };
+
+    /// Whether slots in which nothing happens have to be noted one by one. Where not, they may be skipped.
+    fn wants_gaps(&self) -> bool
+        ensures { result ≡ wants_each (wanted self.now) };
 
     /// Notes the next slot of the run, from slot 0 on and before its end: what its ports posted, its match, and how its
     /// rounds were used. Want of memory is the only error.
@@ -42,6 +50,15 @@ pub trait SlotSink {
         ensures noted { (scheduler : Scheduler) (plan : SwitchPlan) → noted self.old scheduler plan slot
             → IsRunSlot scheduler plan slot posts.now matched.now numbers → OnOk result (noted self.new scheduler plan (slot + 1)) };
 
+    /// Goes on with slot `next` of the run, which comes before its end, where nothing happens from slot `slot` on, which is
+    /// the next to be noted.
+    fn skip(&mut self, slot: u32, next: u32)
+        requires { (scheduler : Scheduler) × (plan : SwitchPlan) × (slots : ℕ) × IsScheduler scheduler × IsLengthUnder scheduler plan slots
+            × (next < slots) × noted self.old scheduler plan slot × IsGap scheduler plan slot next × (wants_each (wanted self.old) ≡ false) }
+        ensures wanted { wanted self.new ≡ wanted self.old }
+        ensures noted { (scheduler : Scheduler) (plan : SwitchPlan) → IsScheduler scheduler → noted self.old scheduler plan slot
+            → IsGap scheduler plan slot next → noted self.new scheduler plan next };
+
     ghost unwanted: { (sink : Self) (scheduler : Scheduler) (plan : SwitchPlan) (t u : ℕ) → wants_any (wanted sink) ≡ false
         → noted sink scheduler plan t → noted sink scheduler plan u };
 }
@@ -57,11 +74,17 @@ impl SlotSink for NoSink {
 
     ghost wants_any = { λ wanted. false };
 
+    ghost wants_each = { λ wanted. false };
+
     ghost noted = { λ sink scheduler plan t. Unit {0} };
 
     ghost unwanted = { λ sink scheduler plan t u is noted. tt };
 
     fn wants_slots(&self) -> bool {
+        false
+    }
+
+    fn wants_gaps(&self) -> bool {
         false
     }
 
@@ -74,4 +97,6 @@ impl SlotSink for NoSink {
     ) -> Result<(), OutOfMemory> {
         Ok(())
     }
+
+    fn skip(&mut self, _slot: u32, _next: u32) {}
 }
