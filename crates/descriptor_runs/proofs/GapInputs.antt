@@ -1,5 +1,5 @@
 -- An input in the slots of a gap: it is before the slot with which the run goes on as it was before the gap.
-use Rattle.std.proofs.Common.{◌≡◌, ◌∙◌, ℕ, ◌+◌, ◌<◌, ◌≤◌, ◌⊎◌, false, List, All, length, Option, Some, refl, sym, ap, subst, arith, inl, inr}
+use Rattle.std.proofs.Common.{◌≡◌, ◌∙◌, ℕ, ◌<◌, ◌≤◌, ◌⊎◌, false, List, All, length, Option, Some, refl, sym, ap, subst, arith, inl, inr}
 use Rattle.std.specs.Prelude.{slice_get, slice_index_or}
 use Rattle.std.proofs.lemmas.Option.{slice_get_within, get_or_from_slice_get}
 use Rattle.slot_match.specs.declared.matching.Served.{Served}
@@ -11,8 +11,8 @@ use Rattle.card_core.specs.States.{AreQueues, queue_now}
 use Rattle.switch_plan.specs.GoodPlans.{SwitchPlan}
 use Rattle.run_laws.specs.Runs.{ports_of, card_at, parts_under}
 use Rattle.run_laws.proofs.Base.{served-length}
-use Rattle.idle_slots.specs.Idle.{NoneArrive, AreIdle}
-use Rattle.idle_slots.specs.Skipped.{AreAsAfter}
+use Rattle.idle_slots.specs.Idle.{queue_under}
+use Rattle.idle_slots.specs.Skipped.{IsGap}
 use Rattle.descriptor_runs.specs.InputSteps.{InputValue, HasServed}
 use Rattle.descriptor_runs.specs.SwitchSteps.{AreInputs}
 use Rattle.descriptor_runs.proofs.InputPorts.{plan-of, in-ports}
@@ -63,26 +63,30 @@ module _ (input : InputValue) (now later : List (Option Served)) (s u : ℕ) (st
         queues = subst (λ (at : Queue → Passed). AreQueues input.plan at input.next input.banks input.fans) (λ x q. queue_same q x) sent.queues;
       }
 
-module _ (scheduler : Scheduler) (plan : SwitchPlan) (t u : ℕ) (some : t < u) (none : NoneArrive plan (t + 1) u) (still : AreIdle scheduler plan t u)
-    (same : AreAsAfter scheduler plan (t + 1) u) where
+module _ (scheduler : Scheduler) (plan : SwitchPlan) (slot next : ℕ) (skipped : IsGap scheduler plan slot next) where
   still_card : (i : ℕ) → i < ports_of plan
-      → IsStillCard (card_at plan i) (parts_under scheduler plan i (t + 1)) (parts_under scheduler plan i u) (t + 1) u
-  still_card i inside = record {
-    few = omega arith;
-    count = served-length scheduler plan i (t + 1);
-    count_later = served-length scheduler plan i u;
-    none = none i inside;
-    queues = λ q. still.queues i u q inside some (omega arith);
-    admits = same.admits i inside;
-    drops = same.drops i inside;
-  }
+      → IsStillCard (card_at plan i) (parts_under scheduler plan i slot) (parts_under scheduler plan i next) slot next
+  still_card i inside =
+      let begins = skipped.begins in
+      let some = skipped.some in
+      record {
+        few = omega arith;
+        count = served-length scheduler plan i slot;
+        count_later = served-length scheduler plan i next;
+        none = skipped.none i inside;
+        queues = λ q. skipped.idle.queues i next q inside some (omega arith) ∙ ap (queue_under scheduler plan i q) (sym begins);
+        admits = skipped.after.admits i inside;
+        drops = skipped.after.drops i inside;
+      }
 
-  pub gap-inputs : (inputs : List InputValue) → AreInputs scheduler plan (t + 1) false inputs → AreInputs scheduler plan u false inputs
+  pub gap-inputs : (inputs : List InputValue) → AreInputs scheduler plan slot false inputs → AreInputs scheduler plan next false inputs
   gap-inputs inputs are = record {
     plans = are.plans;
     served = λ i input at.
+        let now = parts_under scheduler plan i slot in
+        let later = parts_under scheduler plan i next in
         let mine = plan-of plan inputs are.plans i input at in
-        let own = subst (λ (card : CardPlan). IsStillCard card (parts_under scheduler plan i (t + 1)) (parts_under scheduler plan i u) (t + 1) u) (sym mine)
+        let own = subst (λ (card : CardPlan). IsStillCard card now later slot next) (sym mine)
         (still_card i (in-ports plan inputs are.plans i input at)) in
-        stays input (parts_under scheduler plan i (t + 1)) (parts_under scheduler plan i u) (t + 1) u own (are.served i input at);
+        stays input now later slot next own (are.served i input at);
   }

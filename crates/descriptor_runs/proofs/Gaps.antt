@@ -9,7 +9,7 @@ use Rattle.cell_cutter.specs.declared.cell.Cell.{Cell}
 use Rattle.pcap_records.specs.Output.{capture_text}
 use Rattle.eslip_rounds.specs.Schedulers.{Scheduler}
 use Rattle.slot_histories.specs.Slots.{is_done_at, is_done_before, places_under}
-use Rattle.service_bound.specs.Waits.{noted_of}
+use Rattle.service_bound.specs.Waits.{NotedSlot, noted_of, NoneWaits}
 use Rattle.service_bound.specs.MeterSteps.{Meter, HasNoted}
 use Rattle.card_core.specs.declared.plan.Planned.{Planned}
 use Rattle.card_core.specs.Plans.{Plan as CardPlan}
@@ -21,7 +21,7 @@ use Rattle.run_laws.specs.Crossings.{cells_under}
 use Rattle.run_laws.specs.Sums.{schedule_under}
 use Rattle.run_laws.proofs.Base.{places-same, served-length}
 use Rattle.idle_slots.specs.Idle.{NoneArrive, AreIdle}
-use Rattle.idle_slots.specs.Skipped.{AreAsAfter}
+use Rattle.idle_slots.specs.Skipped.{AreAsAfter, IsGap}
 use Rattle.descriptor_runs.specs.declared.switch.Switch.{Switch}
 use Rattle.descriptor_runs.specs.InputSteps.{InputValue, next_slot}
 use Rattle.descriptor_runs.specs.OutputSteps.{OutputValue, HasCome}
@@ -29,7 +29,7 @@ use Rattle.descriptor_runs.specs.RunningSteps.{NoneBefore, ComesTo}
 use Rattle.descriptor_runs.specs.SwitchSteps.{AreInputs, AreNames, IsNameOf, IsBefore}
 use Rattle.descriptor_runs.proofs.InputPorts.{count-inputs, plan-of, in-ports}
 use Rattle.descriptor_runs.proofs.Endings.{going-to}
-use Rattle.descriptor_runs.proofs.GapSlots.{gap, gap-more, none-crosses}
+use Rattle.descriptor_runs.proofs.GapSlots.{gap, length-gap, gap-waits, gap-more, none-crosses}
 use Rattle.descriptor_runs.proofs.GapInputs.{gap-inputs}
 
 -- ---- the next arrival
@@ -110,43 +110,72 @@ module _ (scheduler : Scheduler) (plan : SwitchPlan) (slot : ℕ) (inputs : List
             subst (λ (card : CardPlan). slice_get card.packets input.next ≡ Some packet) (plan-of plan inputs are.plans i input at) there in
             law i input.next s packet (in-ports plan inputs are.plans i input at) own (omega arith)
 
--- ---- the switch
-module _ (scheduler : Scheduler) (plan : SwitchPlan) (t u : ℕ) (some : t < u) (none : NoneArrive plan (t + 1) u) (still : AreIdle scheduler plan t u)
-    (same : AreAsAfter scheduler plan (t + 1) u) (switch : Switch) (is : IsBefore scheduler plan (t + 1) switch) where
-  places : places_under scheduler (setup_for plan) (posts_under scheduler plan) (t + 1) ≡ places_under scheduler (setup_for plan) (posts_under scheduler plan) u
-  places =
-      sym (places-same scheduler plan (t + 1))
-      ∙ (still.pointers (t + 1) (omega arith) (omega arith) ∙ (sym (still.pointers u (omega arith) (omega arith)) ∙ places-same scheduler plan u))
+  -- until then it is a gap, where nothing was asked for in the slot before this one: by the laws on idle slots
+  pub gap-is : (first : Option ℕ) → NoneBefore (length inputs) inputs first → (t next : ℕ) → slot ≡ t + 1 → next ≡ unwrap_or first slot → t < next
+      → (NoneArrive plan (t + 1) next → AreIdle scheduler plan t next)
+      → (NoneArrive plan (t + 1) next → AreAsAfter scheduler plan (t + 1) next) → IsGap scheduler plan slot next
+  gap-is first least t next begins is some idle after =
+      let none : NoneArrive plan slot next = subst (NoneArrive plan slot) (sym is) (none-come first least) in
+      let arrive = subst (λ s. NoneArrive plan s next) begins none in
+      record {
+        before = t;
+        begins = begins;
+        some = some;
+        none = none;
+        idle = idle arrive;
+        after = subst (λ s. AreAsAfter scheduler plan s next) (sym begins) (after arrive);
+      }
 
-  names : AreNames scheduler plan u switch.names
+-- ---- the switch
+module _ (scheduler : Scheduler) (plan : SwitchPlan) (slot next : ℕ) (skipped : IsGap scheduler plan slot next) (switch : Switch)
+    (is : IsBefore scheduler plan slot switch) where
+  places : places_under scheduler (setup_for plan) (posts_under scheduler plan) slot
+      ≡ places_under scheduler (setup_for plan) (posts_under scheduler plan) next
+  places =
+      let begins = skipped.begins in
+      let some = skipped.some in
+      sym (places-same scheduler plan slot)
+      ∙ (skipped.idle.pointers slot (omega arith) (omega arith)
+      ∙ (sym (skipped.idle.pointers next (omega arith) (omega arith)) ∙ places-same scheduler plan next))
+
+  names : AreNames scheduler plan next switch.names
   names i inside =
+      let begins = skipped.begins in
+      let some = skipped.some in
       let card = card_at plan i in
-      let now : granted_at card (parts_under scheduler plan i (t + 1)) (t + 1) ≡ None = still.cells i (t + 1) (omega arith) (omega arith) in
-      let later : granted_at card (parts_under scheduler plan i u) u ≡ None = still.cells i u some (omega arith) in
+      let now : granted_at card (parts_under scheduler plan i slot) slot ≡ None = skipped.idle.cells i slot (omega arith) (omega arith) in
+      let later : granted_at card (parts_under scheduler plan i next) next ≡ None = skipped.idle.cells i next some (omega arith) in
       subst (λ (cell : Option Cell). IsNameOf card cell (slice_index_or switch.names i None)) (now ∙ sym later) (is.names i inside)
 
-  cells : (j : ℕ) → cells_under scheduler plan j (t + 1 + 1) ≡ cells_under scheduler plan j (u + 1)
+  cells : (j : ℕ) → cells_under scheduler plan j (slot + 1) ≡ cells_under scheduler plan j (next + 1)
   cells j =
-      let last : u - 1 + 1 ≡ u = omega arith in
-      let crosses : cells_under scheduler plan j u ≡ cells_under scheduler plan j (u + 1) =
-      subst (λ k. cells_under scheduler plan j k ≡ cells_under scheduler plan j (k + 1)) last
-      (sym (none-crosses scheduler plan t u still j (u - 1) (omega arith) (omega arith))) in
-      none-crosses scheduler plan t u still j t (omega arith) some ∙ (sym (same.cells j) ∙ crosses)
+      let begins = skipped.begins in
+      let some = skipped.some in
+      let crossed : ℕ → List Cell = cells_under scheduler plan j in
+      let stays = none-crosses scheduler plan skipped.before next skipped.idle j in
+      let last : next - 1 + 1 ≡ next = omega arith in
+      let first : crossed (slot + 1) ≡ crossed slot = subst (λ s. crossed (s + 1) ≡ crossed s) (sym begins) (stays skipped.before (omega arith) some) in
+      let crosses : crossed (next + 1) ≡ crossed next =
+      subst (λ s. crossed (s + 1) ≡ crossed s) last (stays (next - 1) (omega arith) (omega arith)) in
+      first ∙ (sym (skipped.after.cells j) ∙ sym crosses)
 
-  come : (j : ℕ) (output : OutputValue) → HasCome scheduler plan (t + 1 + 1) j output → HasCome scheduler plan (u + 1) j output
+  come : (j : ℕ) (output : OutputValue) → HasCome scheduler plan (slot + 1) j output → HasCome scheduler plan (next + 1) j output
   come j output was = record {
     text = was.text ∙ ap (λ (all : List Cell). capture_text plan.nano plan.link (delivered all)) (cells j);
     packets = was.packets ∙ ap (λ (all : List Cell). length (delivered all)) (cells j);
     cells = was.cells ∙ ap (λ (all : List Cell). length all) (cells j);
   }
 
-  -- it is before slot u when its meter has noted the slots of the gap
-  pub past-gap : (meter : Meter) → meter.ports ≡ switch.meter.ports → meter.count ≡ switch.meter.count + (u - (t + 1))
-      → HasNoted meter (map noted_of (schedule_under scheduler plan (t + 1)) ++ gap scheduler plan t u still (t + 1))
-      → IsBefore scheduler plan u (record switch { meter = meter })
+  -- it is before the next slot when its meter has noted the slots of the gap
+  pub past-gap : (meter : Meter) → meter.ports ≡ switch.meter.ports → meter.count ≡ switch.meter.count + (next - slot)
+      → ((before more : List NotedSlot) → HasNoted switch.meter before → length more ≡ next - slot → All NoneWaits more → HasNoted meter (before ++ more))
+      → IsBefore scheduler plan next (record switch { meter = meter })
   past-gap meter ports count noted =
+      let begins = skipped.begins in
+      let some = skipped.some in
       let was = is.switch_is in
       let counted = was.meter_count in
+      let t = skipped.before in
       record {
         switch_is = record {
           decides = was.decides;
@@ -157,9 +186,11 @@ module _ (scheduler : Scheduler) (plan : SwitchPlan) (t u : ℕ) (some : t < u) 
           posts = was.posts;
           meter_ports = ports ∙ was.meter_ports;
           meter_count = omega arith;
-          noted = subst (HasNoted meter) (gap-more scheduler plan t u still (t + 1) (omega arith)) noted;
+          noted = subst (HasNoted meter) (gap-more scheduler plan t next skipped.idle slot (omega arith))
+              (noted (map noted_of (schedule_under scheduler plan slot)) (gap scheduler plan t next skipped.idle slot) was.noted
+              (length-gap scheduler plan t next skipped.idle slot) (gap-waits scheduler plan t next skipped.idle slot (omega arith)));
         };
-        inputs = gap-inputs scheduler plan t u some none still same switch.inputs.items is.inputs;
+        inputs = gap-inputs scheduler plan slot next skipped switch.inputs.items is.inputs;
         rows = is.rows;
         names = names;
         outputs = record {

@@ -12,7 +12,6 @@ pub mod GapInputs
 pub mod Gaps
 pub mod Endings
 pub mod NotedSlots
-pub mod Countable
 pub mod CrossedCells
 pub mod ByPlaces
 pub mod PostedInputs

@@ -14,7 +14,7 @@ use Rattle.card_core.specs.Plans.{Plan as CardPlan}
 use Rattle.card_core.specs.Queues.{admitted, dropped}
 use Rattle.slot_report.specs.declared.summary.OutLine.{OutLine}
 use Rattle.slot_report.specs.declared.summary.Summary.{Summary}
-use Rattle.switch_plan.specs.GoodPlans.{SwitchPlan, IsGood}
+use Rattle.switch_plan.specs.GoodPlans.{SwitchPlan, IsGood, IsCountable}
 use Rattle.run_laws.specs.Runs.{ports_of, card_at, parts_under}
 use Rattle.run_laws.specs.Ends.{IsLengthUnder}
 use Rattle.run_laws.specs.Crossings.{cells_under}
@@ -26,7 +26,6 @@ use Rattle.slot_records.specs.Slots.{AddsNothing}
 use Rattle.descriptor_runs.specs.InputSteps.{InputValue}
 use Rattle.descriptor_runs.specs.OutputSteps.{OutputValue, HasCome}
 use Rattle.descriptor_runs.specs.SwitchSteps.{AreInputs, AreOutputs, IsBefore}
-use Rattle.descriptor_runs.specs.Limits.{IsCountable}
 use Rattle.descriptor_runs.specs.Outcomes.{capture_under, line_under}
 use Rattle.descriptor_runs.specs.FinishingSteps.{ArePlanNumbers, line_of}
 use Rattle.descriptor_runs.specs.declared.finishing.PlanNumbers.{PlanNumbers}

@@ -1,4 +1,3 @@
-pub mod Limits
 pub mod InputSteps
 pub mod OutputSteps
 pub mod SwitchSteps

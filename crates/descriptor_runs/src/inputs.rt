@@ -1,4 +1,4 @@
-ghost use Rattle.std.specs.Prelude.{◌≡◌, ℕ, ◌+◌, ◌^◌, ◌<◌, nat_lt, List, [], ◌∷◌, ◌++◌, true, false, Option, Some, IfOk, length, slice_get};
+ghost use Rattle.std.specs.Prelude.{◌≡◌, ◌+◌, ◌^◌, ◌<◌, nat_lt, List, [], ◌∷◌, ◌++◌, true, false, Option, Some, IfOk, length, slice_get};
 ghost use Rattle.slot_match.specs.declared.matching.Served.{Served as APart};
 ghost use Rattle.multicast_queue.specs.FanQueues.{first_name};
 ghost use Rattle.slot_histories.specs.Parts.{IsPartOf};

@@ -6,7 +6,6 @@
 
 mod finishing;
 mod inputs;
-pub mod laws;
 mod noting;
 mod outputs;
 mod running;

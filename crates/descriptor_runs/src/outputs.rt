@@ -30,18 +30,18 @@ impl Model for Output {
 }
 
 impl Output {
-    /// An output to which nothing has come, with room for so many bytes of records.
+    /// An output to which nothing has come, with room for so many bytes of records. The only error is want of memory, as where
+    /// the room is more than there can be.
     pub(crate) fn make(
         alloc: Global,
         nano: bool,
         link: Link,
         room: usize,
     ) -> Result<Output, OutOfMemory>
-        requires { room < 2 ^ 32 }
         ensures text { IfOk result (λ output. output.text ≡ capture_text nano link []) }
         ensures counts { IfOk result (λ output. (output.packets ≡ 0) × (output.cells ≡ 0)) }
     {
-        let mut text = Vec::with_capacity(alloc, FILE_HEADER_BYTES + room)?;
+        let mut text = Vec::with_capacity(alloc, room.saturating_add(FILE_HEADER_BYTES))?;
         text.extend_from_slice(&[0; FILE_HEADER_BYTES])?;
         write_header(&mut text, nano, link);
         Ok(Output {

@@ -4,10 +4,9 @@ ghost use Rattle.idle_slots.specs.Quiet.{IsQuiet};
 ghost use Rattle.idle_slots.specs.Idle.{IsIdle};
 ghost use Rattle.named_schedulers.specs.Named.{decision_named};
 ghost use Rattle.slot_histories.specs.Slots.{is_done_before};
-ghost use Rattle.switch_plan.specs.GoodPlans.{SwitchPlan, IsGood, switch_plan_of};
+ghost use Rattle.switch_plan.specs.GoodPlans.{SwitchPlan, IsGood, IsCountable, switch_plan_of};
 ghost use Rattle.run_laws.specs.Ends.{IsLengthUnder};
 ghost use Rattle.run_laws.specs.Runs.{ports_of, posts_under};
-ghost use Rattle.descriptor_runs.specs.Limits.{IsCountable};
 ghost use Rattle.descriptor_runs.specs.Outcomes.{IsRunOutcome};
 ghost use Rattle.descriptor_runs.specs.RunningSteps.{IsFirst, earlier_of};
 ghost use Rattle.descriptor_runs.specs.SwitchSteps.{IsBefore, IsDecided, IsActivity};
@@ -36,8 +35,9 @@ pub struct RunOutcome {
     pub lines: Vec<OutLine>,
 }
 
-/// Runs the plan on this thread under the scheduler of this name, to its end. Each slot is noted by the sink when it is made;
-/// where it wants none, slots in which nothing can happen are skipped. The only error is want of memory.
+/// Runs the plan on this thread under the scheduler of this name, to its end. Each slot is noted by the sink when it is made,
+/// where it wants slots; slots in which nothing can happen are skipped, where it does not want them one by one. The only error is
+/// want of memory.
 pub fn run_by_descriptors<S: SlotSink>(
     alloc: Global,
     plan: Plan,
@@ -123,39 +123,46 @@ impl Switch {
     }
 
     // The slot with which the run goes on, where this went on in the slot before this one and was not all: where it was idle
-    // and the sink wants no slots, the next in which a packet arrives.
-    fn go_on<S: SlotSink>(&mut self, slot: u32, activity: Activity, sink: &S) -> u32
+    // and gaps need not be noted slot by slot, the next in which a packet arrives.
+    fn go_on<S: SlotSink>(&mut self, slot: u32, activity: Activity, sink: &mut S) -> u32
         requires { (scheduler : Scheduler) × (plan : SwitchPlan) × (t : ℕ) × (slot ≡ t + 1) × IsScheduler scheduler × IsQuiet scheduler × IsGood plan
             × (is_done_before (ports_of plan) (posts_under scheduler plan) slot ≡ false) × IsActivity scheduler plan t activity
-            × IsBefore scheduler plan slot self.old }
+            × IsBefore scheduler plan slot self.old × S.noted sink.old scheduler plan slot }
         ensures later { slot ≤ result }
         ensures next { (scheduler : Scheduler) (plan : SwitchPlan) (t : ℕ) → slot ≡ t + 1 → IsScheduler scheduler → IsQuiet scheduler → IsGood plan
             → is_done_before (ports_of plan) (posts_under scheduler plan) slot ≡ false → IsActivity scheduler plan t activity
-            → IsBefore scheduler plan slot self.old → S.noted sink.now scheduler plan slot → IsBefore scheduler plan result self.new
-            × (is_done_before (ports_of plan) (posts_under scheduler plan) result ≡ false) × S.noted sink.now scheduler plan result }
+            → IsBefore scheduler plan slot self.old → S.noted sink.old scheduler plan slot → IsBefore scheduler plan result self.new
+            × (is_done_before (ports_of plan) (posts_under scheduler plan) result ≡ false) × S.noted sink.new scheduler plan result }
+        ensures wanted { S.wanted sink.new ≡ S.wanted sink.old }
     {
         match activity {
-            Activity::Idle if !sink.wants_slots() => self.skip_gap(slot),
+            Activity::Idle if !sink.wants_gaps() => self.skip_gap(slot, sink),
             _ => slot,
         }
     }
 
-    // Goes on with the next slot in which a packet arrives, where no input asked for an output in the slot before this one.
-    fn skip_gap(&mut self, slot: u32) -> u32
+    // Goes on with the next slot in which a packet arrives, where no input asked for an output in the slot before this one and
+    // gaps need not be noted slot by slot.
+    fn skip_gap<S: SlotSink>(&mut self, slot: u32, sink: &mut S) -> u32
         requires { (scheduler : Scheduler) × (plan : SwitchPlan) × (t : ℕ) × (slot ≡ t + 1) × IsScheduler scheduler × IsQuiet scheduler × IsGood plan
-            × IsIdle scheduler plan t × IsBefore scheduler plan slot self.old }
+            × (is_done_before (ports_of plan) (posts_under scheduler plan) slot ≡ false) × IsIdle scheduler plan t
+            × IsBefore scheduler plan slot self.old × S.noted sink.old scheduler plan slot × (S.wants_each (S.wanted sink.old) ≡ false) }
         ensures later { slot ≤ result }
         ensures next { (scheduler : Scheduler) (plan : SwitchPlan) (t : ℕ) → slot ≡ t + 1 → IsScheduler scheduler → IsQuiet scheduler → IsGood plan
-            → IsIdle scheduler plan t → IsBefore scheduler plan slot self.old → IsBefore scheduler plan result self.new }
+            → IsIdle scheduler plan t → IsBefore scheduler plan slot self.old → S.noted sink.old scheduler plan slot
+            → IsBefore scheduler plan result self.new × S.noted sink.new scheduler plan result }
         ensures going { (scheduler : Scheduler) (plan : SwitchPlan) → IsBefore scheduler plan slot self.old
             → is_done_before (ports_of plan) (posts_under scheduler plan) slot ≡ false
             → is_done_before (ports_of plan) (posts_under scheduler plan) result ≡ false }
+        ensures wanted { S.wanted sink.new ≡ S.wanted sink.old }
     {
         laws::idle_slots_change_nothing();
         laws::gaps_can_be_skipped();
         laws::runs_do_not_end_in_gaps();
+        ends::runs_end();
         let next = first_arrival(&self.inputs).unwrap_or(slot);
         self.meter.skip(next - slot);
+        sink.skip(slot, next);
         next
     }
 }

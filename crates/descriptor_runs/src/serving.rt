@@ -3,10 +3,9 @@ ghost use Rattle.slot_match.specs.declared.matching.Served.{Served as APart};
 ghost use Rattle.card_core.specs.Plans.{IsGoodPlan};
 ghost use Rattle.card_core.specs.Posts.{IsServable};
 ghost use Rattle.eslip_rounds.specs.Schedulers.{Scheduler, IsScheduler};
-ghost use Rattle.switch_plan.specs.GoodPlans.{SwitchPlan, IsGood};
+ghost use Rattle.switch_plan.specs.GoodPlans.{SwitchPlan, IsGood, IsCountable};
 ghost use Rattle.slot_records.specs.Slots.{match_under};
 ghost use Rattle.descriptor_runs.specs.InputSteps.{HasServed, row_in};
-ghost use Rattle.descriptor_runs.specs.Limits.{IsCountable};
 ghost use Rattle.descriptor_runs.specs.OutputSteps.{HasTaken, messages_with};
 ghost use Rattle.descriptor_runs.specs.SwitchSteps.{AreInputs, AreNames, AreOutputs, AreParts, AreGranted, name_by};
 

@@ -21,7 +21,7 @@ go_on-slot-requires g c =
     let made = c.in_ok-activity.ensures.made scheduler plan scheduling good at.0 at.2 in
     let going = going-on (ports_of plan) (posts_under scheduler plan) t at.1
     (goes-on scheduler plan t c.in_ok-activity.activity c.in_default.not-Done made.0) in
-    (scheduler, plan, t, refl, scheduling, quiet, good, going, made.0, made.1)
+    (scheduler, plan, t, refl, scheduling, quiet, good, going, made.0, made.1, made.2)
 
 pub loop-slot-preserved : goal.loop-slot-preserved
 loop-slot-preserved g c = record {
@@ -32,7 +32,7 @@ loop-slot-preserved g c = record {
       let going = going-on (ports_of plan) (posts_under scheduler plan) t at.1
       (goes-on scheduler plan t c.in_ok-activity.activity c.in_default.not-Done made.0) in
       c.go_on-slot.ensures.next scheduler plan t refl scheduling quiet good going made.0 made.1 made.2;
-  wanted = c.in_ok-activity.ensures.wanted ∙ c.loop-slot.invariant.wanted;
+  wanted = c.go_on-slot.ensures.wanted ∙ (c.in_ok-activity.ensures.wanted ∙ c.loop-slot.invariant.wanted);
 }
 
 pub unreachable-requires : goal.unreachable-requires
