@@ -28,7 +28,7 @@ use Rattle.buffer_sizing.proofs.SameCards.{drops_none}
 
 -- ---- the work of a packet
 -- a packet that goes anywhere brings each of its cells to an output
-routed_work : (p : Planned) → is_routed p ≡ true → size_of p ≤ work_of p
+pub routed_work : (p : Planned) → is_routed p ≡ true → size_of p ≤ work_of p
 routed_work p routed = elim (cases_lt 0 (count_ones p.fan)) [
   | inl some ↦ let more = mul-le-mul_left (size_of p) some in omega (arith, more)
   | inr none ↦
@@ -109,7 +109,7 @@ most_all n = by (nat_lt 32 n)
     by true = omega arith
     by false = omega arith
 
-card_work : (plan : SwitchPlan) (i : ℕ) → i < ports_of plan → sum_by work_of (card_at plan i).packets ≤ total_work (packets_in plan)
+pub card_work : (plan : SwitchPlan) (i : ℕ) → i < ports_of plan → sum_by work_of (card_at plan i).packets ≤ total_work (packets_in plan)
 card_work plan i inside =
     let packets : slice_index_or (packets_in plan) i [] ≡ (card_at plan i).packets =
     get_or-map (λ (card : CardPlan). card.packets) plan.cards i no_plan [] inside in

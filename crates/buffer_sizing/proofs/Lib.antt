@@ -4,5 +4,5 @@ mod Deepest
 mod Depths
 mod SamePosts
 mod SameRuns
-mod GreatestDepth
+pub mod GreatestDepth
 mod Sized

@@ -40,7 +40,7 @@ use Rattle.queue_lengths.specs.Steps.{is_last, place_left}
 use Rattle.queue_lengths.proofs.Places.{place-inside, place-same, queue_unicast}
 
 -- ---- the row of a slot depends on the parts before it alone
-row-more : (plan : Plan) (served more : List (Option Served)) (t : ℕ) → t ≤ length served → row_at plan (served ++ more) t ≡ row_at plan served t
+pub row-more : (plan : Plan) (served more : List (Option Served)) (t : ℕ) → t ≤ length served → row_at plan (served ++ more) t ≡ row_at plan served t
 row-more plan served more t early =
     let queues : (λ (q : Queue). queue_in plan q (served ++ more) t) ≡ (λ q. queue_in plan q served t) = λ x q. queue_in-more plan q served more t early x in
     ap (λ (at : Queue → Passed). record {

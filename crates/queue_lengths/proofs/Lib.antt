@@ -2,3 +2,4 @@ pub mod Places
 pub mod Lengths
 pub mod Entering
 pub mod Leaving
+pub mod Gaps

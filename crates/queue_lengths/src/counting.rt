@@ -1,10 +1,10 @@
-ghost use Rattle.std.specs.Prelude.{◌≡◌, ◌≢◌, ℕ, ◌<◌, ◌≤◌, ◌∷◌, [], ◌++◌, List, length, Option, slice_index, IfOk};
+ghost use Rattle.std.specs.Prelude.{◌≡◌, ◌≢◌, ℕ, ◌^◌, ◌<◌, ◌≤◌, ◌∷◌, [], ◌++◌, List, length, Option, slice_index, IfOk};
 ghost use Rattle.rotating_pick.specs.PortSets.{IsAmong};
 ghost use Rattle.rotating_pick.specs.declared.kinds.Kind.TheVariants.{Uni};
 ghost use Rattle.rotating_pick.specs.declared.limits.TheConstants.{LEVELS, MAX_PORTS};
 ghost use Rattle.slot_match.specs.declared.matching.Served.{Served as AServed};
 ghost use Rattle.slot_histories.specs.Parts.{IsPartOf};
-ghost use Rattle.card_core.specs.Plans.{Plan, IsGoodPlan, IsSmallPlan, plan_of, queue_for};
+ghost use Rattle.card_core.specs.Plans.{Plan, IsGoodPlan, plan_of, queue_for};
 ghost use Rattle.card_core.specs.Posts.{row_at, IsServable};
 ghost use Rattle.queue_lengths.specs.Lengths.{place_of, count_of};
 ghost use Rattle.queue_lengths.specs.Counters.{CountBefore, CountIn, arrival_in};
@@ -53,11 +53,11 @@ impl Model for QueueLengths {
 }
 
 impl QueueLengths {
-    /// The queues of an input that is to send what a plan within the limits says, before slot 0. It copies the plan's packets, without
-    /// their bytes; want of memory is the only error.
+    /// The queues of an input that is to send what a plan of fewer than 2^32 packets says, before slot 0. It copies
+    /// the plan's packets, without their bytes; want of memory is the only error.
     pub fn make(alloc: Global, plan: &CardPlan) -> Result<QueueLengths, OutOfMemory>
         requires good { IsGoodPlan (plan_of plan.now) }
-        requires small { IsSmallPlan (plan_of plan.now) }
+        requires few { length (plan_of plan.now).packets < 2 ^ 32 }
         ensures { IfOk result (λ queues. CountBefore (plan_of plan.now) queues []) }
     {
         let packets = plan.packets.to_vec(alloc)?;

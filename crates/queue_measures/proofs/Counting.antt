@@ -1,28 +1,29 @@
 -- The numbers of all queues of an input, with the packet that arrives in a slot.
-use Rattle.std.proofs.Common.{◌≡◌, ◌≢◌, ◌∙◌, ℕ, zero, suc, ◌+◌, ◌*◌, ◌/◌, ◌%◌, ◌^◌, ◌<◌, ◌≤◌, ◌&&◌, not, Bool, true, false, List, [], ◌∷◌, ◌++◌}
+use Rattle.std.proofs.Common.{◌≡◌, ◌≢◌, ◌∙◌, ℕ, suc, ◌+◌, ◌*◌, ◌/◌, ◌%◌, ◌^◌, ◌<◌, ◌≤◌, ◌&&◌, not, nat_lt, Bool, true, false, List, [], ◌∷◌, ◌++◌}
 use Rattle.std.proofs.Common.{length, Option, Some, None, slice_index, slice_index_or, slice_set, refl, sym, ap, subst, arith, inl, inr, if◌then◌else◌}
+use Rattle.std.specs.List.{sum_by}
 use Rattle.std.specs.Option.{option_map}
 use Rattle.std.proofs.lemmas.Bool.{cases_eq, cases_lt, cases_Bool, lt-ltb, le-ltb, and_parts}
 use Rattle.std.proofs.lemmas.Grind.{get_or-set_at}
 use Rattle.std.proofs.lemmas.List.{get_or-set_other, length-set}
-use Rattle.std.proofs.lemmas.Option.{same_Some, slice_get_within, get_or_from_slice_get}
-use Rattle.std_lemmas.proofs.Numbers.{from_not_zero}
+use Rattle.std.proofs.lemmas.List.Sums.{count_by-le-length, sum_by-le-sum_by}
+use Rattle.std.proofs.lemmas.Option.{same_Some}
+use Rattle.std_lemmas.proofs.Bools.{if_within}
+use Rattle.std_lemmas.proofs.Numbers.{not_zero}
 use Rattle.slot_match.specs.declared.matching.Served.{Served}
-use Rattle.card_core.specs.declared.limits.TheConstants.{MAX_ARRIVALS}
 use Rattle.card_core.specs.declared.plan.Planned.{Planned}
-use Rattle.card_core.specs.Plans.{Plan, Queue, IsGoodPlan, IsSmallPlan, IsPlanned, is_queue, queue_of, size_of, arriving}
+use Rattle.card_core.specs.Plans.{Plan, Queue, IsGoodPlan, is_queue, queue_of, size_of, arriving}
 use Rattle.card_core.specs.Queues.{is_routed, is_admitted, enters}
 use Rattle.card_core.proofs.Passing.{arriving-there, is_queue-same}
 use Rattle.card_core.proofs.Arriving.{is_queue-refl}
 use Rattle.card_core.proofs.Taking.{one_slot}
-use Rattle.switch_plan.proofs.Summing.{cells_forwarded}
 use Rattle.queue_lengths.specs.declared.counting.Arrival.{Arrival}
 use Rattle.queue_lengths.specs.Counters.{Counters, CountBefore, CountIn, arrival_in}
 use Rattle.queue_lengths.specs.Lengths.{IsQueue, count_of, place_of, is_for, length_in}
 use Rattle.queue_measures.specs.declared.numbers.QueueNumbers.{QueueNumbers}
-use Rattle.queue_measures.specs.NotingSteps.{IsNoted, no_numbers, numbers_so_far}
-use Rattle.queue_measures.specs.Steps.{with_packet, with_arrivals, queue_at, IsSmall, MayCount}
-use Rattle.queue_measures.proofs.SoFar.{so_far, so_far-first, so_far-step, now_few, is_coming_for, numbers-stay, numbers-with}
+use Rattle.queue_measures.specs.NotingSteps.{IsCounted, IsNoted, no_numbers, numbers_so_far}
+use Rattle.queue_measures.specs.Steps.{with_packet, with_arrivals, queue_at, HasRoom, MayCount}
+use Rattle.queue_measures.proofs.SoFar.{so_far, now_of, so_far-step, is_coming_for, numbers-stay, numbers-with}
 use Rattle.queue_lengths.proofs.Places.{place-same, place-inside, IsQueue-packet}
 
 -- ---- queues and places
@@ -35,30 +36,38 @@ at-place ports place inside =
       | inr le ↦ rw (le-ltb (place / 4) ports le) (rest, omega arith)
     ]
 
--- ---- how small the numbers are
-so_far-few : (test : Planned → Bool) (weight : Planned → ℕ) (most : ℕ) (plan : Plan) → IsGoodPlan plan
-    → ((p : Planned) → IsPlanned plan.ports (length plan.bytes) p → test p ≡ true → weight p ≤ most) → (t : ℕ) → so_far test weight t plan.packets ≤ t * most
-so_far-few test weight most plan good few zero = let none = so_far-first test weight plan.packets in omega arith
-so_far-few test weight most plan good few (suc t) =
-    let before = so_far-few test weight most plan good few t in
-    let step = so_far-step test weight t 0 plan.packets good.rising in
-    let now = now_few test weight most (arriving plan t)
-    (λ k p is passes. let there = arriving-there 0 plan.packets t k p is in few p (good.packets there.0 p there.2) passes) in
-    omega (arith, before, step, now)
+-- ---- the numbers have room for the packet that arrives
+module _ (plan : Plan) (good : IsGoodPlan plan) (t k : ℕ) (p : Planned) (is : arriving plan t ≡ Some (k, p)) (routed : is_routed p ≡ true) where
+  -- what some of the packets weigh so far, with this one, is part of what all weigh that go anywhere
+  within-all : (test : Planned → Bool) (weight : Planned → ℕ) → ((r : Planned) → test r ≡ true → is_routed r ≡ true)
+      → so_far test weight t plan.packets + weight p ≤ sum_by (λ r. if is_routed r then weight r else 0) plan.packets
+  within-all test weight goes =
+      let part = sum_by-le-sum_by (λ r. if nat_lt r.arrival t && test r then weight r else 0)
+      (λ r. if nat_lt r.arrival t && is_routed r then weight r else 0) plan.packets
+      (λ r. if_within (nat_lt r.arrival t && test r) (weight r) (if nat_lt r.arrival t && is_routed r then weight r else 0) (λ both.
+      let (early, passes) = and_parts (nat_lt r.arrival t) (test r) both in
+      rw (early, goes r passes) (omega arith))) in
+      let step = so_far-step is_routed weight t 0 plan.packets good.rising in
+      let now : now_of is_routed weight (arriving plan t) ≡ weight p = ap (now_of is_routed weight) is ∙ ap (λ b. if b then weight p else 0) routed in
+      let whole = sum_by-le-sum_by (λ r. if nat_lt r.arrival (suc t) && is_routed r then weight r else 0) (λ r. if is_routed r then weight r else 0)
+      plan.packets
+      (λ r. if_within (nat_lt r.arrival (suc t) && is_routed r) (weight r) (if is_routed r then weight r else 0) (λ both.
+      rw ((and_parts (nat_lt r.arrival (suc t)) (is_routed r) both).1) (omega arith))) in
+      omega (arith, part, step, now, whole)
 
-numbers-small : (plan : Plan) → IsGoodPlan plan → (served : List (Option Served)) (q : Queue) (t : ℕ) → t < 131072 → IsSmall (numbers_so_far plan served t q)
-numbers-small plan good served q t early =
-    let packets = so_far-few (is_for q) (λ p. 1) 1 plan good (λ p planned passes. omega arith) t in
-    let dropped = so_far-few (λ p. is_for q p && not (is_admitted plan served p.arrival p)) (λ p. 1) 1 plan good (λ p planned passes. omega arith) t in
-    let cells = so_far-few (enters plan q served) size_of 1171 plan good
-    (λ p planned passes. cells_forwarded p.len
-    (planned.forwarded (from_not_zero p.fan
-    (and_parts (is_routed p) (is_queue q (queue_of p)) (and_parts (is_for q p) (is_admitted plan served p.arrival p) passes).0).0))) t in
-    record {
-      packets = omega arith;
-      dropped = omega arith;
-      cells = omega arith;
-    }
+  numbers-room : IsCounted plan → (served : List (Option Served)) (q : Queue) → HasRoom (size_of p) (numbers_so_far plan served t q)
+  numbers-room counted served q =
+      let all = count_by-le-length is_routed plan.packets in
+      let for_it : (r : Planned) → is_for q r ≡ true → is_routed r ≡ true = λ r mine. (and_parts (is_routed r) (is_queue q (queue_of r)) mine).0 in
+      let packets = within-all (is_for q) (λ r. 1) for_it in
+      let dropped = within-all (λ r. is_for q r && not (is_admitted plan served r.arrival r)) (λ r. 1)
+      (λ r passes. for_it r (and_parts (is_for q r) (not (is_admitted plan served r.arrival r)) passes).0) in
+      let cells = within-all (enters plan q served) size_of (λ r passes. for_it r (and_parts (is_for q r) (is_admitted plan served r.arrival r) passes).0) in
+      record {
+        packets = omega (arith, packets, all, counted.packets);
+        dropped = omega (arith, dropped, all, counted.packets);
+        cells = omega (arith, cells, counted.cells);
+      }
 
 -- ---- the packet that arrives
 module _ (plan : Plan) (good : IsGoodPlan plan) (served : List (Option Served)) (numbers : List QueueNumbers) (count : length numbers ≡ count_of plan.ports)
@@ -70,20 +79,19 @@ module _ (plan : Plan) (good : IsGoodPlan plan) (served : List (Option Served)) 
   abbrev told : ℕ × Planned → Arrival
   told p = record { number = p.0; packet = p.1; admitted = is_routed p.1 && is_admitted plan served here p.1 }
 
-  small-at : here < 131072 → (place : ℕ) → place < count_of plan.ports → IsSmall (slice_index_or numbers place no_numbers)
-  small-at early place inside =
-      let it = at-place plan.ports place inside in
-      let q = queue_at plan.ports place in
-      subst IsSmall (sym (ap (λ n. slice_index_or numbers n no_numbers) (sym it.1) ∙ are q it.0)) (numbers-small plan good served q here early)
+  own-room : IsCounted plan → (k : ℕ) (p : Planned) → arriving plan here ≡ Some (k, p) → p.fan ≢ 0
+      → HasRoom (size_of p) (slice_index_or numbers (place_of plan.ports (queue_of p)) no_numbers)
+  own-room counted k p is some =
+      let there = arriving-there 0 plan.packets here k p is in
+      let mine = IsQueue-packet plan.ports (length plan.bytes) p (good.packets there.0 p there.2) in
+      subst (HasRoom (size_of p)) (sym (are (queue_of p) mine)) (numbers-room plan good here k p is (not_zero p.fan some) counted served (queue_of p))
 
-  may-of : IsSmallPlan plan → (arrives : Option (ℕ × Planned)) (arrival : Arrival) → arriving plan here ≡ arrives → option_map told arrives ≡ Some arrival
+  may-of : IsCounted plan → (arrives : Option (ℕ × Planned)) (arrival : Arrival) → arriving plan here ≡ arrives → option_map told arrives ≡ Some arrival
       → MayCount plan.ports long numbers arrival
-  may-of limits None arrival is mapped = absurd cc
-  may-of limits (Some (k, p)) arrival is mapped =
+  may-of counted None arrival is mapped = absurd cc
+  may-of counted (Some (k, p)) arrival is mapped =
       let there = arriving-there 0 plan.packets here k p is in
       let planned = good.packets there.0 p there.2 in
-      let early : p.arrival < MAX_ARRIVALS = subst (λ (r : Planned). r.arrival < MAX_ARRIVALS) (get_or_from_slice_get plan.packets there.0 p p there.2)
-      (limits.early there.0 p (slice_get_within plan.packets there.0 p there.2)) in
       let packet : p ≡ arrival.packet = ap (λ (a : Arrival). a.packet) (same_Some (told (k, p)) arrival mapped) in
       record {
         size = good.size;
@@ -92,11 +100,12 @@ module _ (plan : Plan) (good : IsGoodPlan plan) (served : List (Option Served)) 
         level = subst (λ (r : Planned). r.level < 4) packet planned.level;
         fan = subst (λ (r : Planned). r.fan < 2 ^ plan.ports) packet planned.fan;
         forwarded = subst (λ (r : Planned). r.fan ≢ 0 → r.len ≤ 65535) packet planned.forwarded;
-        small = small-at (omega (arith, early, there.3));
+        room = subst (λ (r : Planned). r.fan ≢ 0 → HasRoom (size_of r) (slice_index_or numbers (place_of plan.ports (queue_of r)) no_numbers)) packet
+            (own-room counted k p is);
       }
 
-  pub may-count : IsSmallPlan plan → (arrival : Arrival) → arrival_in plan served here ≡ Some arrival → MayCount plan.ports long numbers arrival
-  may-count limits arrival is = may-of limits (arriving plan here) arrival refl is
+  pub may-count : IsCounted plan → (arrival : Arrival) → arrival_in plan served here ≡ Some arrival → MayCount plan.ports long numbers arrival
+  may-count counted arrival is = may-of counted (arriving plan here) arrival refl is
 
   module _ (part : Option Served)
       (are_long : (q : Queue) → IsQueue plan.ports q → slice_index long (place_of plan.ports q) ≡ length_in plan q served here) where
@@ -177,7 +186,7 @@ module _ (plan : Plan) (served : List (Option Served)) (counters : Counters) (nu
 
   pub noted-may : (packet : Arrival) → arrival ≡ Some packet → MayCount ports new.lengths numbers packet
   noted-may packet is = subst (λ n. MayCount n new.lengths numbers packet) size
-      (may-count plan noted.counts.good served numbers noted.count noted.numbers new.lengths counts.count noted.small packet (sym comes-here ∙ is))
+      (may-count plan noted.counts.good served numbers noted.count noted.numbers new.lengths counts.count noted.counted packet (sym comes-here ∙ is))
 
   pub noted-next : (part : Option Served) (later : List QueueNumbers) (after : Counters) → later ≡ with_arrivals ports slot new.lengths arrival numbers
       → CountBefore plan after (served ++ part ∷ []) → IsNoted plan (record { counters = after; numbers = later }) (served ++ part ∷ [])
@@ -186,7 +195,7 @@ module _ (plan : Plan) (served : List (Option Served)) (counters : Counters) (nu
       are ∙ ap (λ n. with_arrivals n slot new.lengths arrival numbers) (sym size) ∙ ap (λ t. with_arrivals plan.ports t new.lengths arrival numbers) (sym now)
       ∙ ap (λ a. with_arrivals plan.ports (length served) new.lengths a numbers) comes-here in
       record {
-        small = noted.small;
+        counted = noted.counted;
         counts = before;
         count = ap length are ∙ with_arrivals-count ports slot new.lengths arrival numbers ∙ noted.count;
         numbers = λ q mine. ap (λ (ns : List QueueNumbers). slice_index_or ns (place_of plan.ports q) no_numbers) same

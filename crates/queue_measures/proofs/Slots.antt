@@ -1,6 +1,11 @@
--- The slots of a run that measures note.
-use Rattle.std.proofs.Common.{◌≡◌, ◌∙◌, ℕ, ◌+◌, ◌<◌, List, [], ◌∷◌, ◌++◌, length, Option, slice_index_or, sym, ap, subst, arith, inl, inr}
+-- The cards of a run that measures are made of, and the slots that they note.
+use Rattle.std.proofs.Common.{◌≡◌, ◌∙◌, ℕ, ◌+◌, ◌<◌, List, [], ◌∷◌, ◌++◌, length, Option, Some, slice_get, slice_index_or, sym, ap, subst, arith}
+use Rattle.std.proofs.Common.{inl, inr, if◌then◌else◌}
 use Rattle.std.proofs.lemmas.Bool.{cases_eq}
+use Rattle.std.proofs.lemmas.List.Sums.{get_or-le-sum_by, sum_by-le-sum_by}
+use Rattle.std.proofs.lemmas.Option.{get_or_from_slice_get, slice_get_within}
+use Rattle.std_lemmas.proofs.Bools.{if_within}
+use Rattle.std_lemmas.proofs.MappedSums.{sum_by-map}
 use Rattle.std.proofs.lemmas.List.FromFn.{length-map-range_with_len, get_or-map-range_with_len, map-range_with_len_more}
 use Rattle.std.proofs.Math.ListN.{get_or-append}
 use Rattle.std.proofs.Math.Seq.{get_or-append_seam}
@@ -10,12 +15,28 @@ use Rattle.slot_match.specs.Parts.{served_of}
 use Rattle.crossbar.specs.declared.cards.Post.{Post}
 use Rattle.eslip_rounds.specs.Schedulers.{Scheduler}
 use Rattle.slot_histories.specs.Slots.{served_under}
-use Rattle.card_core.specs.Plans.{Plan}
+use Rattle.card_core.specs.Plans.{Plan, size_of}
+use Rattle.card_core.specs.Queues.{is_routed}
 use Rattle.card_core.specs.Posts.{row_at, IsServable}
-use Rattle.switch_plan.specs.GoodPlans.{SwitchPlan}
+use Rattle.switch_plan.specs.GoodPlans.{SwitchPlan, IsCountable}
+use Rattle.switch_plan.specs.Totals.{work_of}
 use Rattle.run_laws.specs.Runs.{ports_of, setup_for, card_at, no_plan, parts_under, posts_under, IsSlotUnder}
 use Rattle.run_laws.proofs.Base.{served-is, served-length, good-card}
-use Rattle.queue_measures.specs.NotingSteps.{Input, HasNoted, IsNoted, no_input}
+use Rattle.buffer_sizing.proofs.GreatestDepth.{card_work, routed_work}
+use Rattle.queue_measures.specs.NotingSteps.{Input, HasNoted, IsCounted, IsNoted, no_input}
+
+-- a card of a countable plan is counted
+pub counted-card : (plan : SwitchPlan) → IsCountable plan → (i : ℕ) (card : Plan) → slice_get plan.cards i ≡ Some card → IsCounted card
+counted-card plan countable i card there =
+    let inside : i < ports_of plan = slice_get_within plan.cards i card there in
+    subst IsCounted (get_or_from_slice_get plan.cards i card no_plan there) (record {
+      packets = let part = get_or-le-sum_by (λ (c : Plan). length c.packets) plan.cards i no_plan inside in
+          let all = sum_by-map length (λ (c : Plan). c.packets) plan.cards in
+          omega (arith, part, all, countable.packets);
+      cells = let few = sum_by-le-sum_by (λ p. if is_routed p then size_of p else 0) work_of (card_at plan i).packets
+          (λ p. if_within (is_routed p) (size_of p) (work_of p) (routed_work p)) in
+          omega (arith, few, card_work plan i inside, countable.cells);
+    })
 
 -- one input more, before slot 0
 pub noted-more : (plans : List Plan) (inputs : List Input) (new : Input)

@@ -5,7 +5,6 @@ use Rattle.std.specs.List.{sum_by}
 use Rattle.std.proofs.lemmas.Bool.{cases_eq, eq-eqb, ne_eqb, lt-ltb, le-ltb, ltb-true}
 use Rattle.std.proofs.lemmas.List.{append-nil}
 use Rattle.std.proofs.lemmas.List.Sums.{sum_by-cons}
-use Rattle.std_lemmas.proofs.Bools.{if_within}
 use Rattle.std_lemmas.proofs.Numbers.{lt_suc-other}
 use Rattle.queue_lengths.proofs.Lengths.{part_of_fewer}
 use Rattle.card_core.proofs.Admitting.{rest-rising, rest-later}
@@ -68,11 +67,6 @@ module _ (test : Planned → Bool) (weight : Planned → ℕ) where
             let more = so_far-step t (k + 1) ps (rest-rising p ps rising) in
             rw (so_far-cons (suc t) p ps, so_far-cons t p ps, lt_suc-other p.arrival t differ, ne_eqb p.arrival t differ, more) (omega arith)
       ]
-
-pub now_few : (test : Planned → Bool) (weight : Planned → ℕ) (most : ℕ) (arrives : Option (ℕ × Planned))
-    → ((k : ℕ) (p : Planned) → arrives ≡ Some (k, p) → test p ≡ true → weight p ≤ most) → now_of test weight arrives ≤ most
-now_few test weight most None few = omega arith
-now_few test weight most (Some (k, p)) few = if_within (test p) (weight p) most (few k p refl)
 
 -- a test that is the same of what arrives in the first slots
 under : (a b c : Bool) → (a ≡ true → b ≡ c) → (a && b) ≡ (a && c)

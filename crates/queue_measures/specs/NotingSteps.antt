@@ -1,10 +1,10 @@
 -- What the measures keep of the slots of a run that they have noted.
-use Rattle.std.specs.Prelude.{◌≡◌, ℕ, ◌<◌, ◌&&◌, not, nat_lt, if◌then◌else◌, List, [], length, Option, count_by, slice_index_or}
+use Rattle.std.specs.Prelude.{◌≡◌, ℕ, ◌^◌, ◌<◌, ◌&&◌, not, nat_lt, if◌then◌else◌, List, [], length, Option, count_by, slice_index_or}
 use Rattle.std.specs.List.{sum_by}
 use Rattle.slot_match.specs.declared.matching.Served.{Served}
 use Rattle.eslip_rounds.specs.Schedulers.{Scheduler}
-use Rattle.card_core.specs.Plans.{Plan, Queue, IsSmallPlan, size_of}
-use Rattle.card_core.specs.Queues.{is_admitted, enters}
+use Rattle.card_core.specs.Plans.{Plan, Queue, size_of}
+use Rattle.card_core.specs.Queues.{is_routed, is_admitted, enters}
 use Rattle.queue_lengths.specs.Lengths.{IsQueue, place_of, count_of, is_for, peak_of, peak_slot}
 use Rattle.queue_lengths.specs.Counters.{Counters, CountBefore}
 use Rattle.queue_measures.specs.declared.numbers.QueueNumbers.{QueueNumbers}
@@ -34,9 +34,14 @@ numbers_so_far plan served slots q = record {
   slot = peak_slot plan q served slots;
 }
 
--- the input of a plan within the limits was served these parts, one in each slot that was noted
+-- the packets of a card, and the cells of those that go anywhere, are counted in numbers of 32 bits
+pub record IsCounted (plan : Plan) : Type 0 where
+  pub packets : length plan.packets < 2 ^ 32
+  pub cells : sum_by (λ packet. if is_routed packet then size_of packet else 0) plan.packets < 2 ^ 32
+
+-- the input of such a plan was served these parts, one in each slot that was noted
 pub record IsNoted (plan : Plan) (input : Input) (served : List (Option Served)) : Type 0 where
-  pub small : IsSmallPlan plan
+  pub counted : IsCounted plan
   pub counts : CountBefore plan input.counters served
   pub count : length input.numbers ≡ count_of plan.ports
   pub numbers : (q : Queue) → IsQueue plan.ports q

@@ -25,11 +25,11 @@ with_packet slot cells admitted length numbers = record {
   slot = if nat_lt numbers.peak length then slot else numbers.slot;
 }
 
--- the numbers are those of a run: one packet more fits
-pub record IsSmall (numbers : QueueNumbers) : Type 0 where
-  pub packets : numbers.packets < 2 ^ 31
-  pub dropped : numbers.dropped < 2 ^ 31
-  pub cells : numbers.cells < 2 ^ 31
+-- a packet more, of so many cells, fits in the numbers
+pub record HasRoom (size : ℕ) (numbers : QueueNumbers) : Type 0 where
+  pub packets : numbers.packets + 1 < 2 ^ 32
+  pub dropped : numbers.dropped + 1 < 2 ^ 32
+  pub cells : numbers.cells + size < 2 ^ 32
 
 -- the queue of a place
 abbrev pub queue_at : ℕ → ℕ → Queue
@@ -55,7 +55,8 @@ deepest_in numbers = fold (λ most queue. max most queue.peak) 0 numbers
 abbrev pub deepest_among : List Input → ℕ
 deepest_among inputs = fold (λ most input. max most (deepest_in input.numbers)) 0 inputs
 
--- the packet may be counted: there are numbers and a length for each queue, and the packet is one of the switch
+-- The packet may be counted: there are numbers and a length for each queue, the packet is one of the switch, and it fits in the
+-- numbers of its queue if it goes anywhere.
 pub record MayCount (ports : ℕ) (long : List ℕ) (numbers : List QueueNumbers) (arrival : Arrival) : Type 0 where
   pub size : ports ≤ MAX_PORTS
   pub lengths : length long ≡ count_of ports
@@ -63,7 +64,8 @@ pub record MayCount (ports : ℕ) (long : List ℕ) (numbers : List QueueNumbers
   pub level : arrival.packet.level < LEVELS
   pub fan : IsAmong ports arrival.packet.fan
   pub forwarded : arrival.packet.fan ≢ 0 → arrival.packet.len ≤ MAX_FORWARDED_BYTES
-  pub small : (place : ℕ) → place < count_of ports → IsSmall (slice_index_or numbers place no_numbers)
+  pub room : arrival.packet.fan ≢ 0
+      → HasRoom (size_of arrival.packet) (slice_index_or numbers (place_of ports (queue_of arrival.packet)) no_numbers)
 
 -- the numbers of all queues with a packet that came: those of its queue change, if it goes anywhere
 abbrev pub with_arrival : ℕ → ℕ → List ℕ → Arrival → List QueueNumbers → List QueueNumbers

@@ -4,12 +4,12 @@ ghost use Rattle.cell_cutter.specs.declared.sizes.TheConstants.{MAX_FORWARDED_BY
 ghost use Rattle.rotating_pick.specs.PortSets.{IsAmong};
 ghost use Rattle.rotating_pick.specs.declared.limits.TheConstants.{LEVELS, MAX_PORTS};
 ghost use Rattle.slot_match.specs.declared.matching.Served.{Served as AServed};
-ghost use Rattle.card_core.specs.Plans.{Plan, IsGoodPlan, IsSmallPlan, plan_of};
+ghost use Rattle.card_core.specs.Plans.{Plan, IsGoodPlan, plan_of};
 ghost use Rattle.card_core.specs.Posts.{row_at, IsServable};
 ghost use Rattle.queue_lengths.specs.Lengths.{count_of};
 ghost use Rattle.queue_lengths.specs.declared.counting.Arrival.{Arrival as AnArrival};
-ghost use Rattle.queue_measures.specs.NotingSteps.{IsNoted, no_numbers};
-ghost use Rattle.queue_measures.specs.Steps.{IsSmall, MayCount, with_arrival, with_arrivals, deepest_in};
+ghost use Rattle.queue_measures.specs.NotingSteps.{IsCounted, IsNoted, no_numbers};
+ghost use Rattle.queue_measures.specs.Steps.{HasRoom, MayCount, with_arrival, with_arrivals, deepest_in};
 
 use crate::numbers::{NO_NUMBERS, QueueNumbers};
 use card_core::CardPlan;
@@ -41,10 +41,11 @@ impl Model for Input {
 }
 
 impl Input {
-    /// An input that is to send what a plan within the limits says, before slot 0. Want of memory is the only error.
+    /// An input that is to send what a plan of fewer than 2^32 packets and cells says, before slot 0. Want of
+    /// memory is the only error.
     pub(crate) fn make(alloc: Global, plan: &CardPlan) -> Result<Input, OutOfMemory>
         requires good { IsGoodPlan (plan_of plan.now) }
-        requires small { IsSmallPlan (plan_of plan.now) }
+        requires counted { IsCounted (plan_of plan.now) }
         ensures { IfOk result (λ input. IsNoted (plan_of plan.now) input []) }
     {
         let queues = QueueLengths::make(alloc, plan)?;

@@ -3,7 +3,7 @@ ghost use Rattle.rotating_pick.specs.declared.limits.TheConstants.{MAX_PORTS};
 ghost use Rattle.eslip_rounds.specs.Schedulers.{Scheduler};
 ghost use Rattle.slot_match.specs.Parts.{served_of};
 ghost use Rattle.slot_report.specs.Lines.{lines_text};
-ghost use Rattle.switch_plan.specs.GoodPlans.{SwitchPlan, IsGood, IsBurst, switch_plan_of};
+ghost use Rattle.switch_plan.specs.GoodPlans.{SwitchPlan, IsGood, IsCountable, switch_plan_of};
 ghost use Rattle.run_laws.specs.Runs.{IsSlotUnder};
 ghost use Rattle.run_laws.specs.Promises.{ArrivalsComeFirst};
 ghost use Rattle.queue_measures.specs.Lines.{queue_lines_under};
@@ -41,10 +41,10 @@ impl Model for QueueMeasures {
 }
 
 impl QueueMeasures {
-    /// The measures of a good plan of a burst, before slot 0. Want of memory is the only error.
+    /// The measures of a good plan that is countable, before slot 0. Want of memory is the only error.
     pub fn make(alloc: Global, plan: &Plan) -> Result<QueueMeasures, OutOfMemory>
         requires good { IsGood (switch_plan_of plan.now) }
-        requires burst { IsBurst (switch_plan_of plan.now) }
+        requires countable { IsCountable (switch_plan_of plan.now) }
         ensures { IfOk result (λ measures. (scheduler : Scheduler) → HasNoted scheduler (switch_plan_of plan.now) measures 0) }
     {
         let mut inputs = Vec::with_capacity(alloc, plan.cards.len())?;

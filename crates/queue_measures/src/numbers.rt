@@ -1,6 +1,5 @@
-ghost use Rattle.std.specs.Prelude.{◌≡◌, ◌<◌, ◌≤◌};
-ghost use Rattle.cell_cutter.specs.declared.sizes.TheConstants.{MAX_FORWARDED_CELLS};
-ghost use Rattle.queue_measures.specs.Steps.{with_packet, IsSmall};
+ghost use Rattle.std.specs.Prelude.{◌≡◌};
+ghost use Rattle.queue_measures.specs.Steps.{with_packet, HasRoom};
 
 /// What a queue held over the slots of a run.
 #[derive(Clone, Copy, Debug, PartialEq, Eq)]
@@ -35,8 +34,7 @@ impl QueueNumbers {
         admitted: bool,
         length: u32,
     ) -> QueueNumbers
-        requires small { IsSmall self }
-        requires cells { cells ≤ MAX_FORWARDED_CELLS }
+        requires { HasRoom cells self }
         ensures { result ≡ with_packet slot cells admitted length self }
     {
         let mut numbers = self;

@@ -14,7 +14,7 @@ returns c =
     let items = c.in_ok-numbers.ensures in
     let count = c.queue_count.ensures in
     record {
-      small = c.requires.small;
+      counted = c.requires.counted;
       counts = c.in_ok-queues.ensures;
       count = ap length items ∙ length-replicate c.queue_count.result no_numbers ∙ count;
       numbers = λ q mine. ap (λ (ns : List QueueNumbers). slice_index_or ns (place_of plan.ports q) no_numbers) items

@@ -7,7 +7,7 @@ use Rattle.switch_plan.specs.GoodPlans.{switch_plan_of}
 use Rattle.run_laws.specs.Runs.{card_at, no_plan}
 use Rattle.run_laws.proofs.Base.{served-is}
 use Rattle.queue_measures.specs.NotingSteps.{Input, IsNoted, no_input}
-use Rattle.queue_measures.proofs.Slots.{noted-more}
+use Rattle.queue_measures.proofs.Slots.{counted-card, noted-more}
 use Rattle.queue_measures.proofs.measures.QueueMeasures.make.Goals as goal
 
 pub make-requires : goal.make-requires
@@ -18,7 +18,10 @@ make-requires c =
     let there : slice_get (map plan_of c.args.plan.now.cards.items) i ≡ Some (plan_of card) =
     ap (λ xs. slice_get (map plan_of xs) i) (sym c.deref-card-items.ensures.value) ∙ slice_get-map plan_of ps i card c.loop-card-test.true
     ∙ ap (λ x. Some (plan_of x)) (sym c.card-item.is) in
-    record { good = (c.requires.good.cards i (plan_of card) there).good; small = c.requires.burst.cards i (plan_of card) there }
+    record {
+      good = (c.requires.good.cards i (plan_of card) there).good;
+      counted = counted-card (switch_plan_of c.args.plan.now) c.requires.countable i (plan_of card) there;
+    }
 
 pub loop-card-preserved : goal.loop-card-preserved
 loop-card-preserved c =
