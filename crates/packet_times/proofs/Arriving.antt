@@ -1,5 +1,5 @@
 -- The packet that arrives in a slot, by how many have come before and after it.
-use Rattle.std.proofs.Common.{◌≡◌, ◌≢◌, ◌∙◌, ℕ, zero, suc, ◌+◌, ◌<◌, ◌≤◌, ◌==◌, ◌&&◌, Bool, true, false, List, [], ◌∷◌, ◌++◌, length, map, take, Option}
+use Rattle.std.proofs.Common.{◌≡◌, ◌≢◌, ◌∙◌, ℕ, zero, suc, ◌+◌, ◌^◌, ◌<◌, ◌≤◌, ◌==◌, ◌&&◌, Bool, true, false, List, [], ◌∷◌, ◌++◌, length, map, take, Option}
 use Rattle.std.proofs.Common.{Some, None, refl, sym, ap, subst, arith, inl, inr, slice_get, slice_index_or, if◌then◌else◌, length-append}
 use Rattle.std.specs.Option.{option_map}
 use Rattle.std.proofs.lemmas.Bool.{cases_eq, cases_lt, eqb-true, eq-eqb}
@@ -10,7 +10,7 @@ use Rattle.std.specs.Prelude.{Result, IsErr, OnOk}
 use Rattle.std.proofs.lemmas.Result.{IfOk-from_err}
 use Rattle.slot_match.specs.declared.matching.Served.{Served}
 use Rattle.card_core.specs.declared.plan.Planned.{Planned}
-use Rattle.card_core.specs.Plans.{Plan, IsSmallPlan, AreRising, arriving, arriving_from, no_packet, queue_of}
+use Rattle.card_core.specs.Plans.{Plan, AreRising, arriving, arriving_from, no_packet, queue_of}
 use Rattle.card_core.specs.Queues.{is_routed, is_admitted, fits}
 use Rattle.card_core.specs.States.{IsNext}
 use Rattle.queue_lengths.specs.declared.counting.Arrival.{Arrival}
@@ -158,25 +158,31 @@ map-alike f g (suc n) (p ∷ ps) same =
     let rest = map-alike f g n ps (λ k q at less. same (suc k) q at (omega arith)) in
     cc
 
-pub admitted-later : (plan : Plan) (served : List (Option Served)) (part : Option Served) (packet : Planned) → packet.arrival ≤ length served
-    → was_admitted plan served packet ≡ was_admitted plan (served ++ part ∷ []) packet
-admitted-later plan served part packet early =
-    ap (λ s. is_routed packet && fits plan s packet)
-    (before-alike plan served (served ++ part ∷ []) (length served) (λ u below. sym (get_or-append served (part ∷ []) None u below))
-    (queue_of packet) packet.arrival early)
+module _ (plan : Plan) (served more : List (Option Served)) where
+  admitted-later : (packet : Planned) → packet.arrival ≤ length served → was_admitted plan served packet ≡ was_admitted plan (served ++ more) packet
+  admitted-later packet early =
+      ap (λ s. is_routed packet && fits plan s packet)
+      (before-alike plan served (served ++ more) (length served) (λ u below. sym (get_or-append served more None u below))
+      (queue_of packet) packet.arrival early)
 
-noted-part : (plan : Plan) (mid new : Input) (served : List (Option Served)) (part : Option Served) → IsSmallPlan plan → HasArrived plan mid served
+  -- of packets that have come
+  pub all-later : (slots next : ℕ) → IsNext plan.packets slots next → slots ≤ length served + 1
+      → map (was_admitted plan served) (take next plan.packets) ≡ map (was_admitted plan (served ++ more)) (take next plan.packets)
+  all-later slots next come few =
+      map-alike (was_admitted plan served) (was_admitted plan (served ++ more)) next plan.packets
+      (λ k p at less. let low = come.before k p at less in admitted-later p (omega arith))
+
+noted-part : (plan : Plan) (mid new : Input) (served : List (Option Served)) (part : Option Served) → length plan.packets < 2 ^ 32 → HasArrived plan mid served
     → CountBefore plan new.counters (served ++ part ∷ []) → new.admitted ≡ mid.admitted → IsNoted plan new (served ++ part ∷ [])
-noted-part plan mid new served part small was counts same =
+noted-part plan mid new served part few was counts same =
     let long : length (served ++ part ∷ []) ≡ length served + 1 = length-append served (part ∷ []) in
     let now = subst (λ n. IsNext plan.packets n new.counters.next) long counts.next in
     let next = next-unique plan.packets (length served + 1) mid.counters.next was.counts.next new.counters.next now in
     record {
-      small = small;
+      few = few;
       counts = counts;
       admitted = same ∙ was.admitted
-          ∙ map-alike (was_admitted plan served) (was_admitted plan (served ++ part ∷ [])) mid.counters.next plan.packets
-          (λ k p at less. let low = was.counts.next.before k p at less in admitted-later plan served part p (omega arith))
+          ∙ all-later plan served (part ∷ []) (length served + 1) mid.counters.next was.counts.next (omega arith)
           ∙ ap (λ n. map (was_admitted plan (served ++ part ∷ [])) (take n plan.packets)) next;
     }
 
@@ -186,25 +192,25 @@ module _ (plan : Plan) (old new : Input) (counters : Counters) (served : List (O
   pub noted-none : None ≡ arrival_in plan served (length served) → new.admitted ≡ old.admitted → IsNoted plan new (served ++ part ∷ [])
   noted-none none same =
       let mid : Input = record { counters = counters; admitted = new.admitted } in
-      noted-part plan mid new served part was.small (arrived-none plan old mid served was counts none same) after refl
+      noted-part plan mid new served part was.few (arrived-none plan old mid served was counts none same) after refl
 
   pub noted-some : (arrival : Arrival) → Some arrival ≡ arrival_in plan served (length served) → new.admitted ≡ old.admitted ++ arrival.admitted ∷ []
       → IsNoted plan new (served ++ part ∷ [])
   noted-some arrival some more =
       let mid : Input = record { counters = counters; admitted = new.admitted } in
-      noted-part plan mid new served part was.small (arrived-some plan old mid served was counts arrival some more) after refl
+      noted-part plan mid new served part was.few (arrived-some plan old mid served was counts arrival some more) after refl
 
 -- a call that fails keeps what it promises of success
 pub failed : {T E : Type 0} (P : Type 0) (r : Result T E) → IsErr r → OnOk r P
 failed P r err = IfOk-from_err r (λ _. P) err
 
 -- before slot 0 no packet has come
-pub first-noted : (plan : Plan) (input : Input) → IsSmallPlan plan → CountBefore plan input.counters [] → input.admitted ≡ [] → IsNoted plan input []
-first-noted plan input small counts none =
+pub first-noted : (plan : Plan) (input : Input) → length plan.packets < 2 ^ 32 → CountBefore plan input.counters [] → input.admitted ≡ [] → IsNoted plan input []
+first-noted plan input few counts none =
     let zero_ : IsNext plan.packets 0 0 = record {
       within = omega arith;
       before = λ k p there less. absurd (omega arith);
       after = λ k p there le. omega arith;
     } in
     let next : 0 ≡ input.counters.next = next-unique plan.packets 0 0 zero_ input.counters.next counts.next in
-    record { small = small; counts = counts; admitted = none ∙ ap (λ n. map (was_admitted plan []) (take n plan.packets)) next }
+    record { few = few; counts = counts; admitted = none ∙ ap (λ n. map (was_admitted plan []) (take n plan.packets)) next }

@@ -2,6 +2,7 @@ mod Places
 mod Arriving
 mod Served
 mod Noted
+mod Gaps
 mod Texts
 mod Told
 mod Counted

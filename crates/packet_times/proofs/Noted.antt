@@ -1,14 +1,16 @@
 -- A slot more is noted.
-use Rattle.std.proofs.Common.{◌≡◌, ◌∙◌, ℕ, zero, suc, ◌+◌, ◌*◌, ◌<◌, Bool, List, [], ◌∷◌, ◌++◌, length, map, filter, Option, refl, sym, ap, subst}
+use Rattle.std.proofs.Common.{◌≡◌, ◌∙◌, ℕ, zero, suc, ◌+◌, ◌*◌, ◌^◌, ◌<◌, Bool, List, [], ◌∷◌, ◌++◌, length, map, filter, Option, refl, sym, ap, subst}
 use Rattle.std.proofs.Common.{arith, inl, inr, slice_set, slice_index_or, replicate, get_or-set_same, get_or-set_other, length-set}
 use Rattle.std.specs.List.{range_with_len}
 use Rattle.std.proofs.lemmas.Bool.{cases_eq}
 use Rattle.std.proofs.lemmas.List.{length-replicate, get_or-map, length-map}
 use Rattle.std.proofs.lemmas.List.Elements.{filter-append}
+use Rattle.std.proofs.lemmas.List.Sums.{get_or-le-sum_by}
 use Rattle.std.proofs.lemmas.List.FromFn.{get_or-map-range_with_len, length-map-range_with_len}
 use Rattle.std.proofs.Math.ListN.{get_or-append}
 use Rattle.std.proofs.Math.Seq.{get_or-append_seam}
 use Rattle.std_lemmas.proofs.Lists.{get_or-same}
+use Rattle.std_lemmas.proofs.MappedSums.{sum_by-map}
 use Rattle.std_lemmas.proofs.Ranges.{range_more}
 use Rattle.reassembly.specs.declared.limits.TheConstants.{FLOWS_PER_INPUT}
 use Rattle.slot_match.specs.declared.matching.Fed.{Fed}
@@ -18,11 +20,11 @@ use Rattle.crossbar.specs.declared.cards.Post.{Post as CardPost}
 use Rattle.crossbar.specs.Crossing.{fetched}
 use Rattle.slot_histories.specs.Slots.{decision_under, crossed_under}
 use Rattle.card_core.specs.declared.plan.CardPlan.{CardPlan}
-use Rattle.card_core.specs.Plans.{IsGoodPlan, IsSmallPlan, plan_of}
+use Rattle.card_core.specs.Plans.{Plan, IsGoodPlan, plan_of}
 use Rattle.card_core.specs.Posts.{row_at, IsServable}
-use Rattle.switch_plan.specs.GoodPlans.{SwitchPlan, IsGood, IsBurst}
+use Rattle.switch_plan.specs.GoodPlans.{SwitchPlan, IsGood, IsCountable}
 use Rattle.run_laws.specs.Runs.{ports_of, setup_for, no_plan, card_at, before_under, parts_under, posts_under, IsSlotUnder}
-use Rattle.run_laws.proofs.Base.{decision-same, good-card, small-card}
+use Rattle.run_laws.proofs.Base.{decision-same, good-card}
 use Rattle.packet_departures.specs.Departures.{Flow, is_end_of, ends_of}
 use Rattle.packet_times.specs.NotingSteps.{Input, Times, no_input, flow_place, IsNoted, IsLastMatch, HasNoted}
 use Rattle.packet_times.specs.Steps.{end_in, HasEnds, AreNoted}
@@ -150,8 +152,12 @@ module _ (plan : SwitchPlan) (cards : List CardPlan) (are : plan.cards ≡ map p
   pub good-at : IsGood plan → (i : ℕ) (default : CardPlan) → i < length cards → IsGoodPlan (plan_of (slice_index_or cards i default))
   good-at good i default inside = subst IsGoodPlan (card-of i default inside) (good-card plan good i (let long = ports-are in omega arith)).good
 
-  pub small-at : IsBurst plan → (i : ℕ) (default : CardPlan) → i < length cards → IsSmallPlan (plan_of (slice_index_or cards i default))
-  small-at burst i default inside = subst IsSmallPlan (card-of i default inside) (small-card plan burst i (let long = ports-are in omega arith))
+  pub few-at : IsCountable plan → (i : ℕ) (default : CardPlan) → i < length cards → length (plan_of (slice_index_or cards i default)).packets < 2 ^ 32
+  few-at countable i default inside =
+      let sum = sum_by-map length (λ (card : Plan). card.packets) plan.cards in
+      let one = get_or-le-sum_by (λ (card : Plan). length card.packets) plan.cards i no_plan (let long = ports-are in omega arith) in
+      let here = ap (λ (card : Plan). length card.packets) (card-of i default inside) in
+      omega (arith, countable.packets, sum, one, here)
 
   pub made-more : (k : ℕ) (default : CardPlan) (inputs : List Input) (new : Input) → k < length cards → length inputs ≡ k
       → ((i : ℕ) → i < k → IsNoted (card_at plan i) (slice_index_or inputs i no_input) [])

@@ -1,5 +1,5 @@
 -- The packets of an input, one after the other: what of each is counted, and its departures.
-use Rattle.std.proofs.Common.{◌≡◌, ◌∙◌, ℕ, ◌+◌, ◌^◌, ◌<◌, ◌≤◌, ◌==◌, ◌&&◌, Bool, true, false, List, [], length, take, Some, slice_get}
+use Rattle.std.proofs.Common.{◌≡◌, ◌∙◌, ℕ, ◌+◌, ◌-◌, ◌^◌, ◌<◌, ◌≤◌, ◌==◌, ◌&&◌, Bool, true, false, List, [], length, take, Some, slice_get}
 use Rattle.std.proofs.Common.{slice_index, slice_index_or, refl, sym, ap, subst, arith, replicate, length-take, if◌then◌else◌}
 use Rattle.std.proofs.lemmas.Bool.{eqb-true, eq-eqb, lt-ltb, both_ways}
 use Rattle.std.proofs.lemmas.List.{get_or_default, length-replicate}
@@ -15,10 +15,9 @@ use Rattle.rotating_pick.specs.declared.limits.TheConstants.{LEVELS, MAX_PORTS}
 use Rattle.eslip_rounds.specs.Schedulers.{Scheduler}
 use Rattle.slot_histories.specs.Tests.{has}
 use Rattle.card_core.specs.declared.plan.Planned.{Planned}
-use Rattle.card_core.specs.Plans.{OfOutput, OfLevel, IsPlanned, IsSmallPlan, is_queue, queue_of, level_of, kind_of, last_port, no_packet}
+use Rattle.card_core.specs.Plans.{OfOutput, OfLevel, IsPlanned, is_queue, queue_of, level_of, kind_of, last_port, no_packet}
 use Rattle.card_core.proofs.Arriving.{is_queue-refl}
 use Rattle.card_core.proofs.Passing.{is_queue-same}
-use Rattle.card_core.proofs.Plenty.{few_packets}
 use Rattle.switch_plan.specs.GoodPlans.{SwitchPlan, IsGood}
 use Rattle.run_laws.specs.Runs.{ports_of, card_at, parts_under}
 use Rattle.run_laws.specs.Promises.{ArrivalsComeFirst}
@@ -67,7 +66,7 @@ goes-none false b c d e = refl
 
 -- ---- one packet more
 module _ (scheduler : Scheduler) (plan : SwitchPlan) (slots k : ℕ) (p : Planned) (good : IsGood plan)
-    (small : (i : ℕ) → i < ports_of plan → IsSmallPlan (card_at plan i)) where
+    (few : (i : ℕ) → i < ports_of plan → length (card_at plan i).packets < 2 ^ 32) where
   module _ (flow : Flow) (is : IsFlow (ports_of plan) flow) (at : slice_get (card_at plan flow.input).packets k ≡ Some p) where
     packets : List Planned
     packets = (card_at plan flow.input).packets
@@ -86,14 +85,14 @@ module _ (scheduler : Scheduler) (plan : SwitchPlan) (slots k : ℕ) (p : Planne
     more-no goes = count_by_more_no (goes_by scheduler plan slots flow) (card_at plan flow.input).packets k no_packet inside
         (ap (goes_by scheduler plan slots flow) here ∙ goes)
 
-    few : earlier_by scheduler plan slots flow k ≤ 131072
-    few =
-        let most = few_packets (card_at plan flow.input) (good-card plan good flow.input is.input).good (small flow.input is.input) in
+    few-earlier : earlier_by scheduler plan slots flow k < 2 ^ 32 - 1
+    few-earlier =
+        let most = few flow.input is.input in
         let count = count_by-le-length (goes_by scheduler plan slots flow) (take k (card_at plan flow.input).packets) in
         let long = length-take k (card_at plan flow.input).packets in
-        omega (arith, most, count, long)
+        omega (arith, inside, most, count, long)
 
-    counted-one : (n : ℕ) → n ≤ 131072 → one_more n ≡ n + 1
+    counted-one : (n : ℕ) → n < 2 ^ 32 - 1 → one_more n ≡ n + 1
     counted-one n low = rw (lt-ltb n 4294967295 (omega arith)) refl
 
     module _ (counts new : List ℕ) (was : slice_index counts (own_place flow.output flow.level flow.kind) ≡ earlier_by scheduler plan slots flow k)
@@ -113,7 +112,7 @@ module _ (scheduler : Scheduler) (plan : SwitchPlan) (slots k : ℕ) (p : Planne
           ∙ more
           ∙ ap (λ n. one_more (slice_index counts n)) (sym place)
           ∙ ap one_more was
-          ∙ counted-one (earlier_by scheduler plan slots flow k) few
+          ∙ counted-one (earlier_by scheduler plan slots flow k) few-earlier
           ∙ sym (more-yes goes)
 
       step-no : goes_by scheduler plan slots flow p ≡ false
@@ -206,8 +205,8 @@ module _ (scheduler : Scheduler) (plan : SwitchPlan) (slots : ℕ) (times : Time
 
   -- ---- an input of the times
   module _ (input : ℕ) where
-    pub few-own : input < ports_of plan → length (card_at plan input).packets ≤ 131072
-    few-own inside = few_packets (card_at plan input) (good-card plan noted.good input inside).good (noted.each input inside).small
+    pub few-own : input < ports_of plan → length (card_at plan input).packets < 2 ^ 32
+    few-own inside = (noted.each input inside).few
 
     module _ (own : Input) (inside : input < ports_of plan) (mine : own ≡ slice_index_or times.inputs input own) where
       own-noted : IsNoted (card_at plan input) own (parts_under scheduler plan input slots)

@@ -1,5 +1,5 @@
 -- What is kept of the slots of a run that are noted: which packets were admitted, and the ends of each flow.
-use Rattle.std.specs.Prelude.{◌≡◌, ◌<◌, ◌+◌, ◌*◌, ℕ, zero, suc, ◌&&◌, Bool, List, [], length, map, take, Option, slice_index_or}
+use Rattle.std.specs.Prelude.{◌≡◌, ◌<◌, ◌+◌, ◌*◌, ◌^◌, ℕ, zero, suc, ◌&&◌, Bool, List, [], length, map, take, Option, slice_index_or}
 use Rattle.rotating_pick.specs.declared.limits.TheConstants.{LEVELS}
 use Rattle.rotating_pick.specs.declared.kinds.Kind.{Kind}
 use Rattle.rotating_pick.specs.declared.kinds.Kind.TheVariants.{Uni, Multi}
@@ -9,7 +9,7 @@ use Rattle.reassembly.specs.declared.limits.TheConstants.{FLOWS_PER_INPUT}
 use Rattle.eslip_rounds.specs.Schedulers.{Scheduler}
 use Rattle.slot_histories.specs.Slots.{decision_under}
 use Rattle.card_core.specs.declared.plan.Planned.{Planned}
-use Rattle.card_core.specs.Plans.{Plan, IsSmallPlan}
+use Rattle.card_core.specs.Plans.{Plan}
 use Rattle.card_core.specs.Queues.{is_routed, is_admitted}
 use Rattle.queue_lengths.specs.Counters.{Counters, CountBefore}
 use Rattle.switch_plan.specs.GoodPlans.{SwitchPlan, IsGood}
@@ -49,9 +49,9 @@ pub record IsFlow (ports : ℕ) (flow : Flow) : Type 0 where
 abbrev pub was_admitted : Plan → List (Option Served) → Planned → Bool
 was_admitted plan served packet = is_routed packet && is_admitted plan served packet.arrival packet
 
--- the input of a plan within the limits was served these parts, one in each slot that was noted
+-- the input of a plan with few packets was served these parts, one in each slot that was noted
 pub record IsNoted (plan : Plan) (input : Input) (served : List (Option Served)) : Type 0 where
-  pub small : IsSmallPlan plan
+  pub few : length plan.packets < 2 ^ 32
   pub counts : CountBefore plan input.counters served
   pub admitted : input.admitted ≡ map (was_admitted plan served) (take input.counters.next plan.packets)
 

@@ -1,11 +1,11 @@
-ghost use Rattle.std.specs.Prelude.{◌≡◌, ℕ, ◌+◌, ◌<◌, ◌≤◌, ◌++◌, ◌∷◌, [], false, None, List, length, Option, map, slice_index_or, IfOk, OnOk};
+ghost use Rattle.std.specs.Prelude.{◌≡◌, ℕ, ◌+◌, ◌^◌, ◌<◌, ◌≤◌, ◌++◌, ◌∷◌, [], false, None, List, length, Option, map, slice_index_or, IfOk, OnOk};
 ghost use Rattle.rotating_pick.specs.declared.limits.TheConstants.{MAX_PORTS};
 ghost use Rattle.slot_match.specs.declared.matching.Served.{Served as AServed};
 ghost use Rattle.slot_match.specs.Parts.{served_of};
 ghost use Rattle.eslip_rounds.specs.Schedulers.{Scheduler};
-ghost use Rattle.card_core.specs.Plans.{Plan as APlan, IsGoodPlan, IsSmallPlan, plan_of};
+ghost use Rattle.card_core.specs.Plans.{Plan as APlan, IsGoodPlan, plan_of};
 ghost use Rattle.card_core.specs.Posts.{row_at, IsServable};
-ghost use Rattle.switch_plan.specs.GoodPlans.{SwitchPlan, IsGood, IsBurst, switch_plan_of};
+ghost use Rattle.switch_plan.specs.GoodPlans.{SwitchPlan, IsGood, IsCountable, switch_plan_of};
 ghost use Rattle.run_laws.specs.Runs.{ports_of, IsSlotUnder};
 ghost use Rattle.packet_times.specs.NotingSteps.{IsNoted};
 ghost use Rattle.packet_times.specs.Steps.{AreNoted};
@@ -35,10 +35,10 @@ impl Model for Input {
 }
 
 impl Input {
-    // An input that is to send what a plan within the limits says, before slot 0.
+    // An input that is to send what a plan says, before slot 0.
     fn make(alloc: Global, plan: &CardPlan) -> Result<Input, OutOfMemory>
         requires good { IsGoodPlan (plan_of plan.now) }
-        requires small { IsSmallPlan (plan_of plan.now) }
+        requires few { length (plan_of plan.now).packets < 2 ^ 32 }
         ensures { IfOk result (λ input. IsNoted (plan_of plan.now) input []) }
     {
         let queues = QueueLengths::make(alloc, plan)?;
@@ -79,10 +79,10 @@ impl Input {
     }
 }
 
-/// The inputs of a good plan of a burst, before slot 0.
+/// The inputs of a good plan whose packets can be counted, before slot 0.
 pub(crate) fn inputs_of(alloc: Global, plan: &Plan) -> Result<Vec<Input>, OutOfMemory>
     requires good { IsGood (switch_plan_of plan.now) }
-    requires burst { IsBurst (switch_plan_of plan.now) }
+    requires countable { IsCountable (switch_plan_of plan.now) }
     ensures { IfOk result (λ inputs. (scheduler : Scheduler) → AreNoted scheduler (switch_plan_of plan.now) 0 0 inputs.items) }
 {
     let mut inputs = Vec::with_capacity(alloc, plan.cards.len())?;

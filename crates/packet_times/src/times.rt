@@ -1,7 +1,7 @@
 ghost use Rattle.std.specs.Prelude.{◌≡◌, ◌+◌, ◌≤◌, ℕ, length, IfOk, OnOk, string_bytes};
 ghost use Rattle.rotating_pick.specs.declared.limits.TheConstants.{MAX_PORTS};
 ghost use Rattle.eslip_rounds.specs.Schedulers.{Scheduler};
-ghost use Rattle.switch_plan.specs.GoodPlans.{SwitchPlan, IsGood, IsBurst, switch_plan_of};
+ghost use Rattle.switch_plan.specs.GoodPlans.{SwitchPlan, IsGood, IsCountable, switch_plan_of};
 ghost use Rattle.run_laws.specs.Runs.{ports_of, IsSlotUnder};
 ghost use Rattle.run_laws.specs.Promises.{ArrivalsComeFirst};
 ghost use Rattle.packet_times.specs.Rows.{packets_text_under};
@@ -40,10 +40,10 @@ impl Model for PacketTimes {
 }
 
 impl PacketTimes {
-    /// The times of a good plan of a burst, before slot 0. Want of memory is the only error.
+    /// The times of a good plan whose packets can be counted, before slot 0. Want of memory is the only error.
     pub fn make(alloc: Global, plan: &Plan) -> Result<PacketTimes, OutOfMemory>
         requires good { IsGood (switch_plan_of plan.now) }
-        requires burst { IsBurst (switch_plan_of plan.now) }
+        requires countable { IsCountable (switch_plan_of plan.now) }
         ensures { IfOk result (λ times. (scheduler : Scheduler) → HasNoted scheduler (switch_plan_of plan.now) times 0) }
     {
         let inputs = inputs_of(alloc, plan)?;

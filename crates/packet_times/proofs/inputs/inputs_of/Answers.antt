@@ -1,10 +1,10 @@
-use Rattle.std.proofs.Common.{◌≡◌, ◌∙◌, ◌+◌, ◌<◌, ℕ, List, [], ◌∷◌, ◌++◌, length, length-append, refl, ap, sym, subst, arith, slice_index_or}
+use Rattle.std.proofs.Common.{◌≡◌, ◌∙◌, ◌+◌, ◌^◌, ◌<◌, ℕ, List, [], ◌∷◌, ◌++◌, length, length-append, refl, ap, sym, subst, arith, slice_index_or}
 use Rattle.run_laws.specs.Runs.{card_at}
 use Rattle.packet_times.specs.NotingSteps.{Input, no_input, IsNoted}
 use Rattle.card_core.specs.declared.plan.CardPlan.{CardPlan}
-use Rattle.card_core.specs.Plans.{IsGoodPlan, IsSmallPlan, plan_of}
+use Rattle.card_core.specs.Plans.{IsGoodPlan, plan_of}
 use Rattle.switch_plan.specs.GoodPlans.{switch_plan_of}
-use Rattle.packet_times.proofs.Noted.{good-at, small-at, made-more, made-all}
+use Rattle.packet_times.proofs.Noted.{good-at, few-at, made-more, made-all}
 use Rattle.packet_times.proofs.inputs.inputs_of.Goals as goal
 
 pub make-requires : goal.make-requires
@@ -17,7 +17,7 @@ make-requires c =
     let e : slice_index_or cards i card ≡ card = cc in
     record {
       good = subst (λ (x : CardPlan). IsGoodPlan (plan_of x)) e (good-at (switch_plan_of plan) cards refl c.requires.good i card inside);
-      small = subst (λ (x : CardPlan). IsSmallPlan (plan_of x)) e (small-at (switch_plan_of plan) cards refl c.requires.burst i card inside);
+      few = subst (λ (x : CardPlan). length (plan_of x).packets < 2 ^ 32) e (few-at (switch_plan_of plan) cards refl c.requires.countable i card inside);
     }
 
 pub returns : goal.returns

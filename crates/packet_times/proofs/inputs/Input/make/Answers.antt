@@ -5,5 +5,5 @@ use Rattle.packet_times.proofs.inputs.Input.make.Goals as goal
 
 pub returns : goal.returns
 returns c = first-noted (plan_of c.args.plan.now)
-    (the_view (record { queues = c.in_ok-queues.queues; admitted = c.in_ok-admitted.admitted })) c.requires.small c.in_ok-queues.ensures
+    (the_view (record { queues = c.in_ok-queues.queues; admitted = c.in_ok-admitted.admitted })) c.requires.few c.in_ok-queues.ensures
     c.in_ok-admitted.ensures.items

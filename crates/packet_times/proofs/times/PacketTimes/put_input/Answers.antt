@@ -1,11 +1,11 @@
-use Rattle.std.proofs.Common.{◌≡◌, ◌∙◌, ◌<◌, ◌≤◌, ◌+◌, ◌++◌, ℕ, true, false, List, [], Some, length, slice_get, slice_index_or, sym}
+use Rattle.std.proofs.Common.{◌≡◌, ◌∙◌, ◌<◌, ◌^◌, ◌+◌, ◌++◌, ℕ, true, false, List, [], Some, length, slice_get, slice_index_or, sym}
 use Rattle.std.proofs.Common.{ap, subst, arith, string_bytes}
 use Rattle.std.specs.List.{flat_map, enumerate_from}
 use Rattle.std.proofs.lemmas.List.{append-nil}
 use Rattle.rotating_pick.specs.PortSets.{Has}
 use Rattle.rotating_pick.specs.declared.limits.TheConstants.{LEVELS}
 use Rattle.card_core.specs.declared.plan.Planned.{Planned}
-use Rattle.card_core.specs.Plans.{IsSmallPlan, kind_of, queue_of, no_packet}
+use Rattle.card_core.specs.Plans.{kind_of, queue_of, no_packet}
 use Rattle.run_laws.specs.Runs.{ports_of, card_at}
 use Rattle.packet_times.specs.NotingSteps.{Input, Times}
 use Rattle.packet_times.specs.Rows.{row_text, packet_rows}
@@ -33,8 +33,8 @@ loop-number-preserved c scheduler plan slots noted come =
     let mine : own ≡ slice_index_or c.args.self.now.inputs input own = c.index-own.ensures ∙ ap (λ (is : List Input). slice_index_or is input own) inputs in
     let packets : items ≡ (card_at plan input).packets = c.packets-packet-items.ensures
     ∙ own-packets scheduler plan slots c.args.self.now noted input own inside mine in
-    let few : length items ≤ 131072 =
-    subst (λ (ps : List Planned). length ps ≤ 131072) (sym packets) (few-own scheduler plan slots c.args.self.now noted input inside) in
+    let few : length items < 2 ^ 32 =
+    subst (λ (ps : List Planned). length ps < 2 ^ 32) (sym packets) (few-own scheduler plan slots c.args.self.now noted input inside) in
     let number : c.min.result ≡ k = omega (arith, few) in
     let outcome = own-outcome scheduler plan slots c.args.self.now noted input own inside mine come k c.is_admitted-admitted.result
     (subst (λ (ps : List Planned). k < length ps) packets c.loop-number-test.true) c.is_admitted-admitted.ensures in
@@ -48,18 +48,18 @@ loop-number-preserved c scheduler plan slots noted come =
     let text = c.in_ok-put_packet.ensures scheduler plan slots noted is
     (subst (λ (n : ℕ). HasGone scheduler plan slots input n c.loop-number.counts) (sym number) now.gone) in
     let level = (planned-is scheduler plan slots c.args.self.now noted (record { input = input; number = k; packet = p; admitted = admitted }) outcome).level in
-    let small : (i : ℕ) → i < ports_of plan → IsSmallPlan (card_at plan i) = λ i below. (noted.each i below).small in
+    let few-each : (i : ℕ) → i < ports_of plan → length (card_at plan i).packets < 2 ^ 32 = λ i below. (noted.each i below).few in
     record {
       gone = elim c.if-admitted.branch [
         | then-admitted w ↦
             let counted = w.count_packet.ensures (subst (λ (x : Planned). x.level < LEVELS) (sym same) level) now.gone.long in
             subst (HasGone scheduler plan slots input (k + 1)) (sym w.counts-is)
-            (gone-more scheduler plan slots k p noted.good small input c.loop-number.counts outcome.packet now.gone w.count_packet.new.counts
+            (gone-more scheduler plan slots k p noted.good few-each input c.loop-number.counts outcome.packet now.gone w.count_packet.new.counts
             (sym outcome.admitted ∙ w.if-admitted.true)
             (subst (λ (x : Planned). IsCounted (Has x.fan) x.level (kind_of (queue_of x)) c.loop-number.counts w.count_packet.new.counts) same counted))
         | else-admitted w ↦
             subst (HasGone scheduler plan slots input (k + 1)) (sym w.counts-is)
-            (gone-same scheduler plan slots k p noted.good small input c.loop-number.counts outcome.packet now.gone
+            (gone-same scheduler plan slots k p noted.good few-each input c.loop-number.counts outcome.packet now.gone
             (sym outcome.admitted ∙ w.if-admitted.false))
       ];
       text = walk-more (packet_rows scheduler plan slots input) items (string_bytes c.args.text.now) (string_bytes c.loop-number.text) k p
