@@ -214,7 +214,7 @@ if-le : (b : Bool) (x y n : ℕ) → x ≤ n → y ≤ n → (if b then x else y
 if-le true x y n first second = first
 if-le false x y n first second = second
 
-pub small-next : (t fed : ℕ) (old new : Tally) → t < 262145 → IsSmall t old → Ticks t fed old new → fed ≤ 1 → (fed ≡ 1 → old.ran < old.came) → (more : ℕ)
+pub small-next : (t fed : ℕ) (old new : Tally) → t + 1 < 4294967296 → IsSmall t old → Ticks t fed old new → fed ≤ 1 → (fed ≡ 1 → old.ran < old.came) → (more : ℕ)
     → more ≤ 131072
     → IsSmall (t + 1) (record { came = new.came + more; given = new.given; ran = new.ran; line = new.line })
 small-next t fed old new few small ticks one waits more within =

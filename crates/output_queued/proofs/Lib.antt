@@ -12,3 +12,4 @@ pub mod Noted
 pub mod FirstNoted
 pub mod Places
 pub mod Arrivals
+pub mod Skipping

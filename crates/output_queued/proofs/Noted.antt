@@ -338,17 +338,21 @@ module _ (s : State) (matches : List Matched) (noted : HasNoted s matches) where
 -- ---- the test of a slot
 pub note_from : (s : State) (matches : List Matched) → HasNoted s matches → (rows : List Row) (matched : Matched) → s.slots < 262145 → (n : ℕ) → n ≡ s.ports
     → IsMatch n matched → rows ≡ map (λ (source : Source). row_of source.banks source.fans) s.sources
-    → ((i j level : ℕ) (kind : Kind) → Serves matched i j level kind → Names (row_in rows i) level kind j) → MayNote s rows matched
+    → ((i j level : ℕ) (kind : Kind) → Serves matched i j level kind → Names (row_in rows i) level kind j)
+    → MayNote s rows matched × (s.slots < 262145)
 note_from s matches noted rows matched few n ports whole same named =
     let slots = noted.stands.slots in (
-      matches,
-      noted,
-      record {
-        few = omega arith;
-        rows_are = same ∙ rows-are s matches noted;
-        whole = subst (λ k. IsMatch k matched) (ports ∙ sym (cards-long s matches noted)) whole;
-        named = named;
-      },
+      (
+        matches,
+        noted,
+        record {
+          few = omega arith;
+          rows_are = same ∙ rows-are s matches noted;
+          whole = subst (λ k. IsMatch k matched) (ports ∙ sym (cards-long s matches noted)) whole;
+          named = named;
+        },
+      ),
+      few,
     )
 
 pub note_rows : (s : State) (rows : List Row) (matched : Matched) → MayNote s rows matched

@@ -5,16 +5,16 @@ use Rattle.std.proofs.Common.{None, Some, slice_get, slice_index_or, refl, sym, 
 use Rattle.std.specs.List.{sum_by}
 use Rattle.std.specs.Option.{option_map}
 use Rattle.std.proofs.lemmas.Bool.{cases_lt, ne_eqb}
-use Rattle.std.proofs.lemmas.List.{length-map, length-replicate}
+use Rattle.std.proofs.lemmas.List.{length-replicate}
 use Rattle.std.proofs.lemmas.List.Sums.{sum_by-cons}
-use Rattle.std.proofs.lemmas.Option.{same_Some, slice_get-get_or}
+use Rattle.std.proofs.lemmas.Option.{same_Some}
 use Rattle.slot_match.specs.declared.matching.Served.{Served}
 use Rattle.slot_match.specs.Rows.{empty_row}
 use Rattle.slot_histories.specs.Tests.{has}
 use Rattle.voq_banks.specs.Queues.{Queues as UniQueues, empty_queues as empty_unis}
 use Rattle.multicast_queue.specs.FanQueues.{Queues as FanQueues, empty_queues as empty_fans}
 use Rattle.card_core.specs.declared.plan.Planned.{Planned}
-use Rattle.card_core.specs.Plans.{Plan, IsPlanned, IsGoodPlan, IsSmallPlan, size_of, arriving}
+use Rattle.card_core.specs.Plans.{Plan, IsPlanned, IsGoodPlan, size_of, arriving}
 use Rattle.card_core.specs.Queues.{queue_in, is_routed, is_admitted, admitted, dropped, counted, count_in}
 use Rattle.card_core.specs.Posts.{granted_at}
 use Rattle.card_core.specs.States.{State, HasSent, IsNext, AreQueues, state_of}
@@ -22,7 +22,6 @@ use Rattle.card_core.specs.StateSteps.{HasRooms, next_in, MayEnter, Enters}
 use Rattle.card_core.proofs.Beginning.{begins}
 use Rattle.card_core.proofs.Passing.{arriving-there}
 use Rattle.card_core.proofs.Posted.{may_arrive, posted_is, posted_state}
-use Rattle.card_core.proofs.Plenty.{few_packets}
 use Rattle.output_queued.specs.declared.coming.Coming.{Coming}
 use Rattle.output_queued.specs.Switches.{planned_of, bytes_for, card_for, brought, IsComing}
 use Rattle.output_queued.specs.NotingSteps.{Source, IsBefore, IsIn}
@@ -102,26 +101,6 @@ good-card n depth coming part = record {
   flows = length-replicate (8 * n) 0;
   sizes = λ k d inside. zeros (8 * n) k d (let long = length-replicate {A = ℕ} (8 * n) 0 in omega arith);
 }
-
-small-card : (n depth : ℕ) (coming : List Coming) → IsPart n depth coming → IsSmallPlan (card_for n depth coming)
-unfolding card_for
-small-card n depth coming part = record {
-  early = λ k d inside.
-      let p = slice_index_or (map planned_of coming) k d in
-      let (c, at, same) = planned-at coming k p (slice_get-get_or (map planned_of coming) k d inside) in
-      let early = (part.input.packets k c at).early in
-      let arrives : c.slot ≡ p.arrival = ap (λ (q : Planned). q.arrival) same in
-      omega arith;
-  depth = part.depth_in;
-  messages = omega arith;
-  body = omega arith;
-}
-
-pub few_coming : (n depth : ℕ) (coming : List Coming) → IsPart n depth coming → length coming ≤ 131072
-few_coming n depth coming part =
-    let few = few_packets (card_for n depth coming) (good-card n depth coming part) (small-card n depth coming part) in
-    let same = ap length (packets-are n depth coming) ∙ length-map coming planned_of in
-    omega arith
 
 -- ---- before any packet
 pub begins_as : (n depth : ℕ) (coming : List Coming) (uni fan : List ℕ) (banks : UniQueues) (fans : FanQueues) → IsPart n depth coming

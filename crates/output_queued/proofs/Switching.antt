@@ -16,7 +16,6 @@ part_of ports depth inputs is i inside =
       some = is.some;
       size = is.size;
       deep = is.deep;
-      depth_in = is.depth_in;
       input = is.each i (slice_index_or inputs i []) (slice_get-get_or inputs i [] (omega arith));
     }
 

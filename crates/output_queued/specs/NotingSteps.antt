@@ -1,11 +1,10 @@
 -- What a reference has noted, as a reader sees it, and how its fields stand to it.
-use Rattle.std.specs.Prelude.{◌≡◌, ℕ, ◌+◌, ◌*◌, ◌<◌, ◌≤◌, ◌↔◌, List, [], map, length, Option, slice_index_or}
+use Rattle.std.specs.Prelude.{◌≡◌, ℕ, ◌+◌, ◌*◌, ◌^◌, ◌<◌, ◌≤◌, ◌↔◌, List, [], map, length, Option, slice_index_or}
 use Rattle.rotating_pick.specs.PortSets.{Has}
 use Rattle.slot_match.specs.declared.rows.Row.{Row}
 use Rattle.slot_match.specs.declared.matching.Served.{Served}
 use Rattle.voq_banks.specs.Queues.{Queues as UniQueues}
 use Rattle.multicast_queue.specs.FanQueues.{Queues as FanQueues}
-use Rattle.card_core.specs.declared.limits.TheConstants.{MAX_SLOTS}
 use Rattle.card_core.specs.Plans.{Plan}
 use Rattle.card_core.specs.Queues.{before, queue_in}
 use Rattle.card_core.specs.States.{AreQueues, IsNext}
@@ -28,10 +27,10 @@ pub record Noted : Type 0 where
 abbrev pub cards_of : Noted → List Plan
 cards_of noted = map (card_for noted.ports noted.depth) noted.coming
 
--- The ports, the depth and the packets are a switch, the slots are at most 262,145, and each serves only what its rows name.
+-- The ports, the depth and the packets are a switch, the slots are fewer than 2^32, and each serves only what its rows name.
 pub record IsNoted (noted : Noted) : Type 0 where
   pub switch : IsSwitch noted.ports noted.depth noted.coming
-  pub few : length noted.matches ≤ MAX_SLOTS
+  pub few : length noted.matches < 2 ^ 32
   pub served : AreServed (cards_of noted) noted.matches
 
 -- ---- the fields
@@ -106,7 +105,7 @@ pub record IsSmall (slots : ℕ) (tally : Tally) : Type 0 where
   pub lead : tally.line.lead ≤ slots
   pub ends : tally.line.ends ≤ slots
   pub runs : tally.line.runs ≤ slots
-  pub extra : tally.line.extra ≤ MAX_SLOTS * slots
+  pub extra : tally.line.extra ≤ 2 ^ 32 * slots
 
 -- These are the outputs to which a cell has come that the run has not served. None has been served more than have come.
 pub record IsUnserved (unserved : ℕ) (tallies : List Tally) : Type 0 where

@@ -4,7 +4,6 @@ use Rattle.rotating_pick.specs.declared.limits.TheConstants.{MAX_PORTS}
 use Rattle.cell_cutter.specs.declared.cell.CellName.{CellName}
 use Rattle.slot_match.specs.declared.matching.Served.{Served}
 use Rattle.slot_histories.specs.Tests.{has}
-use Rattle.voq_banks.specs.declared.limits.TheConstants.{MAX_DEPTH}
 use Rattle.card_core.specs.StateSteps.{MayLeave, Leaves}
 use Rattle.output_queued.specs.declared.coming.Coming.{Coming}
 use Rattle.output_queued.specs.declared.tally.Tally.{Tally}
@@ -33,7 +32,6 @@ pub record IsPart (ports depth : ℕ) (coming : List Coming) : Type 0 where
   pub some : 0 < ports
   pub size : ports ≤ MAX_PORTS
   pub deep : 0 < depth
-  pub depth_in : depth ≤ MAX_DEPTH
   pub input : IsInput ports coming
 
 -- what was served may be taken off the input's queues

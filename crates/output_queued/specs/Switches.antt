@@ -1,6 +1,6 @@
 -- What comes to the outputs of a switch, and what its slots feed them. The switch is the list of what each input is to
 -- send, and the matches of its slots say which input fed which output.
-use Rattle.std.specs.Prelude.{◌≡◌, ◌≢◌, ℕ, ◌+◌, ◌-◌, ◌*◌, ◌<◌, ◌≤◌, ◌&&◌, is_some, if◌then◌else◌, List, [], map, length, replicate, Option, None, Some}
+use Rattle.std.specs.Prelude.{◌≡◌, ◌≢◌, ℕ, ◌+◌, ◌-◌, ◌*◌, ◌^◌, ◌<◌, ◌≤◌, ◌&&◌, is_some, if◌then◌else◌, List, [], map, length, replicate, Option, None, Some}
 use Rattle.std.specs.Prelude.{slice_get, slice_index_or}
 use Rattle.std.specs.List.{sum_by, range_with_len}
 use Rattle.rotating_pick.specs.PortSets.{IsAmong}
@@ -107,17 +107,17 @@ card_for ports depth coming = record {
   packet_room = 0;
 }
 
--- a packet has 1 to 1,171 cells, one or more of the ports, a level of 0 to 3, and arrives in a slot below 131,072
+-- a packet has 1 to 1,171 cells, one or more of the ports, and a level of 0 to 3
 pub record IsComing (ports : ℕ) (c : Coming) : Type 0 where
   pub some : 0 < c.cells
   pub few : c.cells ≤ MAX_FORWARDED_CELLS
   pub level : c.level < LEVELS
   pub routed : c.fan ≢ 0
   pub fan : IsAmong ports c.fan
-  pub early : c.slot < MAX_ARRIVALS
 
--- the packets of an input are so, and each arrives in a later slot than those before it
+-- the packets of an input are so, fewer than 2^32, and each arrives in a later slot than those before it
 pub record IsInput (ports : ℕ) (coming : List Coming) : Type 0 where
+  pub few : length coming < 2 ^ 32
   pub packets : (k : ℕ) (c : Coming) → slice_get coming k ≡ Some c → IsComing ports c
   pub rising : (k m : ℕ) (c d : Coming) → slice_get coming k ≡ Some c → slice_get coming m ≡ Some d → k < m → c.slot < d.slot
 
@@ -126,6 +126,14 @@ pub record IsSwitch (ports depth : ℕ) (inputs : List (List Coming)) : Type 0 w
   pub some : 0 < ports
   pub size : ports ≤ MAX_PORTS
   pub deep : 0 < depth
-  pub depth_in : depth ≤ MAX_DEPTH
   pub count : length inputs ≡ ports
   pub each : (i : ℕ) (coming : List Coming) → slice_get inputs i ≡ Some coming → IsInput ports coming
+
+-- each packet of an input arrives in a slot below 131,072
+abbrev pub AreEarly : List Coming → Type 0
+AreEarly coming = (k : ℕ) (c : Coming) → slice_get coming k ≡ Some c → c.slot < MAX_ARRIVALS
+
+-- a switch of a burst: its queues have at most 131,072 cells, and its packets arrive early
+pub record IsSmallSwitch (depth : ℕ) (inputs : List (List Coming)) : Type 0 where
+  pub depth_in : depth ≤ MAX_DEPTH
+  pub early : (i : ℕ) (coming : List Coming) → slice_get inputs i ≡ Some coming → AreEarly coming

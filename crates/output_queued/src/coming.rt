@@ -3,7 +3,7 @@ use rotating_pick::Ports;
 /// A packet that comes to an input.
 #[derive(Clone, Copy, Debug, PartialEq, Eq)]
 pub struct Coming {
-    /// The slot in which it arrives, below 131,072.
+    /// The slot in which it arrives.
     pub slot: u32,
     /// How many cells it has, 1 to 1,171.
     pub cells: u32,

@@ -41,7 +41,7 @@ pub(crate) fn let_in(
     requires stand { (ports depth : ℕ) × (served : ℕ → List (Option AServed)) × Stand ports depth slot inputs.old.items served
         × (length tallies.old.items ≡ ports) }
     requires size { length inputs.old.items ≤ MAX_PORTS }
-    requires small { (j : ℕ) → (tally_at tallies.old.items j).came ≤ 2 ^ 40 }
+    requires small { (j : ℕ) → (tally_at tallies.old.items j).came ≤ 2 ^ 60 }
     requires unserved { IsUnserved unserved tallies.old.items }
     ensures count { length tallies.new.items ≡ length tallies.old.items }
     ensures small { (j : ℕ) → (tally_at tallies.new.items j).came ≤ (tally_at tallies.old.items j).came + 131072 }

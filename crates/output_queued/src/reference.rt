@@ -1,28 +1,28 @@
-ghost use Rattle.std.specs.Prelude.{◌≡◌, ℕ, ◌+◌, ◌<◌, ◌≤◌, ◌↔◌, List, [], ◌∷◌, ◌++◌, map, replicate, length, is_some, if◌then◌else◌, IsTrue, IfOk};
+ghost use Rattle.std.specs.Prelude.{◌≡◌, ℕ, ◌+◌, ◌^◌, ◌<◌, ◌≤◌, ◌↔◌, List, [], ◌∷◌, ◌++◌, map, replicate, length, is_some, if◌then◌else◌, IsTrue, IfOk};
 ghost use Rattle.rotating_pick.specs.PortSets.{Has};
 ghost use Rattle.rotating_pick.specs.declared.kinds.Kind.{Kind};
 ghost use Rattle.rotating_pick.specs.declared.limits.TheConstants.{LEVELS, MAX_PORTS};
 ghost use Rattle.card_core.specs.declared.limits.TheConstants.{MAX_SLOTS};
-ghost use Rattle.slot_match.specs.Matches.{fed_of, Serves, IsMatch};
+ghost use Rattle.slot_match.specs.Matches.{unmatched, fed_of, Serves, IsMatch};
 ghost use Rattle.slot_match.specs.Rows.{Names, row_of as row_in};
 ghost use Rattle.card_core.specs.StateSteps.{row_of};
-ghost use Rattle.output_queued.specs.Switches.{Matched, card_for, IsSwitch};
+ghost use Rattle.output_queued.specs.Switches.{Matched, card_for, IsSwitch, IsSmallSwitch};
 ghost use Rattle.output_queued.specs.Lines.{ideal, ran, line_of};
 ghost use Rattle.output_queued.specs.NotingSteps.{HasNoted, MayNote, cards_in, source_at, tally_at, no_tally, IsSmall, IsBefore, IsUnserved};
+ghost use Rattle.output_queued.specs.QuietSteps.{IsQuietFor};
 ghost use Rattle.output_queued.specs.Steps.{SameSwitch, Ticks};
 
-use crate::checking::are_inputs;
+use crate::checking::{are_inputs, are_sizes};
 use crate::coming::Coming;
 use crate::entering::{let_in, take_served};
 use crate::inputs::Input;
 use crate::line::RefLine;
 use crate::tally::Tally;
 use card_core::MAX_SLOTS;
-use rotating_pick::{Kind, MAX_PORTS, OutOfMemory, PORT_COUNT, Ports, contains, lowest, without};
+use rotating_pick::{Kind, OutOfMemory, PORT_COUNT, Ports, contains, lowest, without};
 use slot_match::{Fed, Match, Row, Served};
 use std::alloc::{AllocError, Global};
 use std::marker::Model;
-use voq_banks::MAX_DEPTH;
 
 /// The ideal switch beside a run: it is told of slot after slot of the run, and keeps for each output how
 /// many cells came to it, how many the ideal switch has given out, and how many the run has fed to it.
@@ -69,22 +69,17 @@ impl Model for Reference {
 }
 
 impl Reference {
-    /// Whether a reference can be made of these: 1 to 64 ports, a depth of 1 to 131,072, a list for each
-    /// port with rising slots below 131,072, and of each packet 1 to 1,171 cells, a level of 0 to 3, and one
-    /// or more of the ports.
+    /// Whether these are the packets of a burst, of which a reference can be made: 1 to 64 ports, a depth of 1
+    /// to 131,072, a list for each port with rising slots below 131,072, and of each packet 1 to 1,171 cells, a
+    /// level of 0 to 3, and one or more of the ports.
     pub fn may_make(n: u32, depth: u32, coming: &[Vec<Coming>]) -> bool
-        ensures { IsTrue result ↔ IsSwitch n depth (map (λ list. list.items) coming.now) }
+        ensures { IsTrue result ↔ (IsSwitch n depth (map (λ list. list.items) coming.now) × IsSmallSwitch depth (map (λ list. list.items) coming.now)) }
     {
-        0 < n
-            && n <= MAX_PORTS
-            && 0 < depth
-            && depth <= MAX_DEPTH
-            && coming.len() == n as usize
-            && are_inputs(n, coming)
+        are_sizes(n, depth, coming) && are_inputs(n, coming)
     }
 
     /// A reference for a switch of `n` ports with queues of `depth` cells, to whose inputs these packets come,
-    /// that has noted no slot. It takes all memory that the reference needs: that is refused is the one cause
+    /// fewer than 2^32 to each, that has noted no slot. It takes all memory that the reference needs: that is refused is the one cause
     /// of the error.
     pub fn make(
         alloc: Global,
@@ -120,11 +115,11 @@ impl Reference {
         self.ports
     }
 
-    /// Whether the next slot may have these rows and this match: fewer than 262,145 slots are noted, there is
-    /// a row for each input, which names the queues that are not empty and the remaining fan-out of each
-    /// multicast head, and the match is one of as many ports and serves only what the rows name.
+    /// Whether the next slot of a burst may have these rows and this match: fewer than 262,145 slots are noted,
+    /// there is a row for each input, which names the queues that are not empty and the remaining fan-out of
+    /// each multicast head, and the match is one of as many ports and serves only what the rows name.
     pub fn may_note(&self, rows: &[Row], matched: &Match) -> bool
-        ensures { IsTrue result ↔ MayNote self.now rows.now matched.now }
+        ensures { IsTrue result ↔ (MayNote self.now rows.now matched.now × (self.now.slots < MAX_SLOTS)) }
     {
         self.slots < MAX_SLOTS
             && matched.ports() == self.ports
@@ -132,7 +127,7 @@ impl Reference {
             && are_named(rows, matched)
     }
 
-    /// Notes the next slot, from slot 0 on: the run's rows and its match.
+    /// Notes the next slot, from slot 0 on: the run's rows and its match. There are fewer than 2^32 slots.
     pub fn note(&mut self, rows: &[Row], matched: &Match)
         requires { MayNote self.old rows.now matched.now }
         ensures switch { SameSwitch self.old self.new }
@@ -144,6 +139,27 @@ impl Reference {
         take_served(&mut self.inputs, matched, &mut self.parts);
         self.slots += 1;
         self.unserved = let_in(&mut self.inputs, &mut self.tallies, unserved, self.slots);
+    }
+
+    /// Notes the next `slots` slots of the run, in which nothing happens: no cell waits, no packet comes, and
+    /// nothing is matched. With them there are fewer than 2^32 slots. It costs a look at each input.
+    pub fn skip(&mut self, slots: u32)
+        requires quiet { (matches : List Matched) × HasNoted self.old matches × IsQuietFor self.old matches slots }
+        requires few { self.old.slots + slots < 2 ^ 32 }
+        ensures switch { SameSwitch self.old self.new }
+        ensures noted { (matches : List Matched) → HasNoted self.old matches
+            → HasNoted self.new (matches ++ replicate slots (unmatched self.old.ports)) }
+    {
+        if slots == 0 {
+            return;
+        }
+        self.slots += slots;
+        self.unserved = let_in(
+            &mut self.inputs,
+            &mut self.tallies,
+            self.unserved,
+            self.slots,
+        );
     }
 
     /// The numbers of the output, below the number of ports, over the slots noted. At the end of no slot has
@@ -169,7 +185,7 @@ impl Reference {
 // The outputs to which a cell has come that the run has not served are counted in slot `slot`. Answers of
 // which of them that still holds.
 fn count_slot(tallies: &mut Vec<Tally>, unserved: Ports, slot: u32, matched: &Match) -> Ports
-    requires few { slot < MAX_SLOTS }
+    requires few { slot + 1 < 2 ^ 32 }
     requires size { length tallies.old.items ≤ MAX_PORTS }
     requires count { length tallies.old.items ≡ length matched.now }
     requires unserved { IsUnserved unserved tallies.old.items }

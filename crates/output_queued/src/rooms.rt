@@ -1,5 +1,4 @@
-ghost use Rattle.std.specs.Prelude.{◌≡◌, ℕ, ◌≤◌, map, length, slice_get, Some, IfOk};
-ghost use Rattle.card_core.specs.declared.limits.TheConstants.{MAX_ARRIVALS};
+ghost use Rattle.std.specs.Prelude.{◌≡◌, ℕ, ◌^◌, ◌<◌, ◌≤◌, map, length, slice_get, Some, IfOk};
 ghost use Rattle.card_core.specs.StateSteps.{HasRooms, AreFew};
 ghost use Rattle.output_queued.specs.declared.coming.Coming.{Coming as AComing};
 ghost use Rattle.output_queued.specs.Switches.{planned_of, IsComing};
@@ -12,7 +11,7 @@ use std::alloc::{AllocError, Global};
 /// The rooms of all packets, of a switch of `n` ports.
 pub(crate) fn count_rooms(alloc: Global, n: u32, coming: &[Coming]) -> Result<Rooms, AllocError>
     requires size { n ≤ MAX_PORTS }
-    requires few { length coming.now ≤ MAX_ARRIVALS }
+    requires few { length coming.now < 2 ^ 32 }
     requires packets { (k : ℕ) (c : AComing) → slice_get coming.now k ≡ Some c → IsComing n c }
     ensures ports { IfOk result (λ rooms. rooms.ports ≡ n) }
     ensures rooms { IfOk result (λ rooms. HasRooms n (map planned_of coming.now) rooms.unicast rooms.multicast) }

@@ -1,5 +1,4 @@
-ghost use Rattle.std.specs.Prelude.{◌≡◌, ℕ, ◌+◌, ◌-◌, ◌*◌, ◌<◌, ◌≤◌, min, max, nat_lt, true, if◌then◌else◌, IsTrue, ◌↔◌};
-ghost use Rattle.card_core.specs.declared.limits.TheConstants.{MAX_SLOTS};
+ghost use Rattle.std.specs.Prelude.{◌≡◌, ℕ, ◌+◌, ◌-◌, ◌*◌, ◌^◌, ◌<◌, ◌≤◌, min, max, nat_lt, true, if◌then◌else◌, IsTrue, ◌↔◌};
 ghost use Rattle.output_queued.specs.NotingSteps.{IsSmall, no_tally};
 ghost use Rattle.output_queued.specs.Steps.{Ticks};
 
@@ -45,7 +44,7 @@ impl Tally {
 
     /// Notes slot `slot`: the ideal switch gives out a cell, if one waits, and the run feeds one or none.
     pub(crate) fn tick(&mut self, slot: u32, fed: bool)
-        requires few { slot < MAX_SLOTS }
+        requires few { slot + 1 < 2 ^ 32 }
         requires small { IsSmall slot self.old }
         requires waits { IsTrue fed → self.old.ran < self.old.came }
         ensures ticks { Ticks slot (if fed then 1 else 0) self.old self.new }

@@ -4,3 +4,4 @@ pub mod Ended
 pub mod Told
 pub mod ToldInputs
 mod Delayed
+mod Gaps

@@ -1,5 +1,5 @@
 -- The matches of a run, and the run as slots that serve what their rows name.
-use Rattle.std.proofs.Common.{◌≡◌, ◌∙◌, ℕ, ◌+◌, ◌<◌, ◌≤◌, [], ◌∷◌, ◌++◌, map, length, slice_index_or, sym, ap, subst, arith}
+use Rattle.std.proofs.Common.{◌≡◌, ◌∙◌, ℕ, ◌+◌, ◌<◌, [], ◌∷◌, ◌++◌, map, length, slice_index_or, sym, ap, subst, arith}
 use Rattle.std.specs.List.{range_with_len}
 use Rattle.std.proofs.lemmas.List.FromFn.{length-map-range_with_len, get_or-map-range_with_len, map-range_with_len_more}
 use Rattle.std.proofs.lemmas.Simd.{map-map}
@@ -12,13 +12,11 @@ use Rattle.crossbar.specs.declared.cards.Post.{Post}
 use Rattle.slot_histories.specs.Slots.{decision_under}
 use Rattle.slot_histories.specs.Answers.{JournalSlot}
 use Rattle.card_core.specs.Posts.{row_at}
-use Rattle.switch_plan.specs.GoodPlans.{SwitchPlan, IsGood, IsBurst}
-use Rattle.switch_plan.proofs.RoomBounds.{most_few}
+use Rattle.switch_plan.specs.GoodPlans.{SwitchPlan, IsGood, IsCountable}
 use Rattle.run_laws.specs.Runs.{ports_of, setup_for, card_at, parts_under, posts_under, slot_under}
 use Rattle.run_laws.specs.Ends.{IsLengthUnder}
 use Rattle.run_laws.proofs.Base.{served-is, row_at-same, good-card, sound, is-slot, pair-named}
 use Rattle.run_laws.proofs.RunEnds.{run_bound}
-use Rattle.run_laws.proofs.SlotLimits.{greatest-le}
 use Rattle.run_laws.proofs.RunWork.{total_admitted-le}
 use Rattle.output_queued.specs.Switches.{Matched, match_at, served_in, AreCards, AreServed}
 use Rattle.reference_run.specs.RunLines.{run_matches_under}
@@ -78,12 +76,11 @@ module _ (scheduler : Scheduler) (scheduling : IsScheduler scheduler) (plan : Sw
             (run-named t i j level kind (subst (λ m. Serves m i j level kind) (match-is scheduler plan slots t (omega arith)) pair));
       }
 
-  -- ---- the run of a burst has few slots
-  pub run-few : IsBurst plan → (slots : ℕ) → IsLengthUnder scheduler plan slots → slots ≤ 262145
-  run-few burst slots end =
+  -- ---- the run of a countable plan has fewer than 2^32 slots
+  pub run-few : IsCountable plan → (slots : ℕ) → IsLengthUnder scheduler plan slots → slots < 4294967296
+  run-few countable slots end =
       let bound = run_bound scheduler scheduling plan good slots end in
       let work = total_admitted-le scheduler plan slots in
-      let cells = burst.cells in
-      let few = most_few (ports_of plan) in
-      let greatest = greatest-le plan burst in
+      let few = countable.slots in
+      let most = good.max_slots in
       omega arith

@@ -7,7 +7,7 @@ use Rattle.slot_match.specs.Rows.{Names, no_row}
 use Rattle.slot_match.specs.Matches.{IsMatch}
 use Rattle.card_core.specs.Posts.{row_at}
 use Rattle.eslip_rounds.specs.Schedulers.{Scheduler, IsScheduler}
-use Rattle.switch_plan.specs.GoodPlans.{SwitchPlan, IsGood, IsBurst}
+use Rattle.switch_plan.specs.GoodPlans.{SwitchPlan, IsGood, IsCountable}
 use Rattle.run_laws.specs.Runs.{ports_of, card_at, no_plan, parts_under, slot_under}
 use Rattle.run_laws.specs.Ends.{IsLengthUnder}
 use Rattle.run_laws.proofs.Base.{good-card}
@@ -77,10 +77,10 @@ module _ (scheduler : Scheduler) (plan : SwitchPlan) (good : IsGood plan) (r : S
       ∙ ap (row_at (card_at plan i) (parts_under scheduler plan i t)) (matches-long scheduler plan t))
       ∙ sym (get_or-map-range_with_len g 0 (length (cards_in r)) i i no_row (omega arith) (omega arith)))
 
-  pub may_follow : IsScheduler scheduler → IsBurst plan → (slots : ℕ) → IsLengthUnder scheduler plan slots → t < slots
+  pub may_follow : IsScheduler scheduler → IsCountable plan → (slots : ℕ) → IsLengthUnder scheduler plan slots → t < slots
       → MayFollow (cards_in r) (run_matches_under scheduler plan t) (run_rows_under scheduler plan t) (slot_under scheduler plan t).matched
-  may_follow scheduling burst slots end below =
-      let few = run-few scheduler scheduling plan good burst slots end in
+  may_follow scheduling countable slots end below =
+      let few = run-few scheduler scheduling plan good countable slots end in
       let long = matches-long scheduler plan t in
       record {
         few = omega arith;

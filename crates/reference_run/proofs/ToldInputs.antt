@@ -5,13 +5,15 @@ use Rattle.std.specs.Prelude.{filter}
 use Rattle.std.proofs.lemmas.Bool.{eq-eqb}
 use Rattle.std.proofs.lemmas.List.{length-map, map-append}
 use Rattle.std.proofs.lemmas.List.Elements.{filter_more}
+use Rattle.std.proofs.lemmas.List.Filters.{length-filter_both}
+use Rattle.std.proofs.lemmas.List.Sums.{get_or-le-sum_by}
 use Rattle.std.proofs.lemmas.Option.{same_Some, slice_get_within, get_or_from_slice_get}
 use Rattle.std_lemmas.proofs.Lists.{got_map}
-use Rattle.card_core.specs.declared.limits.TheConstants.{MAX_ARRIVALS}
+use Rattle.std_lemmas.proofs.MappedSums.{sum_by-map}
 use Rattle.card_core.specs.declared.plan.Planned.{Planned}
-use Rattle.card_core.specs.Plans.{Plan, IsGoodPlan, IsSmallPlan}
+use Rattle.card_core.specs.Plans.{Plan, IsGoodPlan}
 use Rattle.card_core.specs.Queues.{is_routed}
-use Rattle.switch_plan.specs.GoodPlans.{SwitchPlan, IsGood, IsBurst}
+use Rattle.switch_plan.specs.GoodPlans.{SwitchPlan, IsGood, IsCountable}
 use Rattle.output_queued.specs.declared.coming.Coming.{Coming}
 use Rattle.output_queued.specs.Switches.{IsComing, IsInput, IsSwitch}
 use Rattle.reference_run.specs.Meeting.{coming_of, coming_in}
@@ -72,24 +74,26 @@ module _ (card : Plan) (good : IsGoodPlan card) where
   pub some_fan : (p : Planned) → is_routed p ≡ true → p.fan ≢ 0
   some_fan p routed none = let e = eq-eqb p.fan 0 none in let r : not true ≡ true = rw e at routed in absurd (cc)
 
-  told-packet : IsSmallPlan card → (c : Coming) → StandsAt card.packets c → IsComing card.ports c
-  told-packet small c at =
+  told-packet : (c : Coming) → StandsAt card.packets c → IsComing card.ports c
+  told-packet c at =
       let planned = good.packets at.place at.packet at.found in
       let some = some_fan at.packet at.routed in
       let len = planned.forwarded some in
-      let early = small.early at.place at.packet (slice_get_within card.packets at.place at.packet at.found) in
       subst (IsComing card.ports) at.same (record {
         some = omega arith;
         few = omega arith;
         level = planned.level;
         routed = some;
         fan = planned.fan;
-        early = subst (λ (p : Planned). p.arrival < MAX_ARRIVALS) (get_or_from_slice_get card.packets at.place at.packet at.packet at.found) early;
       })
 
-  pub told-input : IsSmallPlan card → IsInput card.ports (coming_in card)
-  told-input small = record {
-    packets = λ k c there. told-packet small c (stands-at card.packets k c there);
+  pub told-input : length card.packets < 4294967296 → IsInput card.ports (coming_in card)
+  told-input few = record {
+    few =
+        let long = length-map (filter is_routed card.packets) coming_of in
+        let all = length-filter_both is_routed (λ p. not (is_routed p)) (λ p. refl) card.packets in
+        omega arith;
+    packets = λ k c there. told-packet c (stands-at card.packets k c there);
     rising = λ k m c d at there less.
         let two = stand-in_order card.packets k m c d at there less in
         let up = good.rising two.first.place two.second.place two.first.packet two.second.packet two.first.found two.second.found two.order in
@@ -102,20 +106,23 @@ first-card : (cards : List Plan) → 0 < length cards → (card : Plan) × (slic
 first-card [] some = absurd (omega arith)
 first-card (card ∷ cards) some = (card, refl)
 
--- the cards of a plan of a burst make a switch
-pub told-switch : (plan : SwitchPlan) → IsGood plan → IsBurst plan → IsSwitch (length plan.cards) plan.depth (map coming_in plan.cards)
-told-switch plan good burst = record {
+-- the cards of a countable plan make a switch
+pub told-switch : (plan : SwitchPlan) → IsGood plan → IsCountable plan → IsSwitch (length plan.cards) plan.depth (map coming_in plan.cards)
+told-switch plan good countable = record {
   some = good.size.some;
   size = good.size.most;
   deep = let (card, first) = first-card plan.cards good.size.some in let is = good.cards 0 card first in let deep = is.good.deep in let same = is.depth in
       omega arith;
-  depth_in = let (card, first) = first-card plan.cards good.size.some in let is = good.cards 0 card first in let small =
-      burst.cards 0 card first in let deep = small.depth in let same = is.depth in omega arith;
   count = length-map plan.cards coming_in;
   each = λ i coming there.
       let (card, at, same) = got_map coming_in plan.cards i coming there in
       let is = good.cards i card at in
-      subst (IsInput (length plan.cards)) same (subst (λ n. IsInput n (coming_in card)) is.ports (told-input card is.good (burst.cards i card at)));
+      let packets : Plan → ℕ = λ c. length c.packets in
+      let one = get_or-le-sum_by packets plan.cards i card (slice_get_within plan.cards i card at) in
+      let found = ap packets (get_or_from_slice_get plan.cards i card card at) in
+      let all = sum_by-map length (λ (c : Plan). c.packets) plan.cards in
+      let most = countable.packets in
+      subst (IsInput (length plan.cards)) same (subst (λ n. IsInput n (coming_in card)) is.ports (told-input card is.good (omega arith)));
 }
 
 -- ---- packets and cards, as far as they were looked at

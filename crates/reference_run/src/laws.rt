@@ -1,11 +1,14 @@
 //! Laws of a run under any scheduler and its reference, as the contracts of functions that do nothing.
 
-ghost use Rattle.std.specs.Prelude.{◌≡◌, ℕ, ◌+◌, ◌<◌, ◌≤◌, [], ◌∷◌, ◌++◌, sum};
+ghost use Rattle.std.specs.Prelude.{◌≡◌, ℕ, ◌+◌, ◌-◌, ◌^◌, ◌<◌, ◌≤◌, [], ◌∷◌, ◌++◌, replicate, sum};
+ghost use Rattle.slot_match.specs.Matches.{unmatched};
 ghost use Rattle.eslip_rounds.specs.Schedulers.{Scheduler, IsScheduler};
-ghost use Rattle.switch_plan.specs.GoodPlans.{SwitchPlan, IsGood, IsBurst};
+ghost use Rattle.switch_plan.specs.GoodPlans.{SwitchPlan, IsGood, IsCountable};
 ghost use Rattle.run_laws.specs.Runs.{ports_of, slot_under};
 ghost use Rattle.run_laws.specs.Ends.{IsLengthUnder};
+ghost use Rattle.idle_slots.specs.Skipped.{IsGap};
 ghost use Rattle.output_queued.specs.NotingSteps.{State, MayNote, cards_in};
+ghost use Rattle.output_queued.specs.QuietSteps.{IsQuietFor};
 ghost use Rattle.output_queued.specs.Ideal.{total};
 ghost use Rattle.output_queued.specs.Switches.{comes};
 ghost use Rattle.output_queued.specs.Lines.{ideal, ran, rises, line_of};
@@ -13,13 +16,26 @@ ghost use Rattle.reference_run.specs.RunLines.{run_matches_under};
 ghost use Rattle.reference_run.specs.Promises.{EndsNoLaterUnder, ExtraIsDelaysUnder};
 ghost use Rattle.reference_run.specs.MeetingSteps.{IsReferenceOf, run_rows_under};
 
-/// The slots of the run of a burst may be noted one after the other, to its end.
+/// The slots of the run of a countable plan may be noted one after the other, to its end.
 pub fn slots_may_be_noted()
     ensures may { (scheduler : Scheduler) (plan : SwitchPlan) (reference : State) (t slots : ℕ) → IsScheduler scheduler → IsGood plan
-        → IsBurst plan → IsLengthUnder scheduler plan slots → t < slots → IsReferenceOf plan reference (run_matches_under scheduler plan t)
+        → IsCountable plan → IsLengthUnder scheduler plan slots → t < slots → IsReferenceOf plan reference (run_matches_under scheduler plan t)
         → MayNote reference (run_rows_under scheduler plan t) (slot_under scheduler plan t).matched }
     ensures more { (scheduler : Scheduler) (plan : SwitchPlan) (t : ℕ)
         → run_matches_under scheduler plan (t + 1) ≡ run_matches_under scheduler plan t ++ (slot_under scheduler plan t).matched ∷ [] }
+{}
+
+/// In a gap of the run nothing waits and nothing comes, and its slots match nothing: so its reference may skip them, where
+/// the run goes on after them.
+pub fn gaps_may_be_skipped()
+    ensures quiet { (scheduler : Scheduler) (plan : SwitchPlan) (reference : State) (slot next : ℕ) → IsGood plan
+        → IsReferenceOf plan reference (run_matches_under scheduler plan slot) → IsGap scheduler plan slot next
+        → IsQuietFor reference (run_matches_under scheduler plan slot) (next - slot) }
+    ensures few { (scheduler : Scheduler) (plan : SwitchPlan) (reference : State) (slot next slots : ℕ) → IsScheduler scheduler → IsGood plan
+        → IsCountable plan → IsLengthUnder scheduler plan slots → next < slots → IsReferenceOf plan reference (run_matches_under scheduler plan slot)
+        → IsGap scheduler plan slot next → reference.slots + (next - slot) < 2 ^ 32 }
+    ensures more { (scheduler : Scheduler) (plan : SwitchPlan) (slot next : ℕ) → IsGap scheduler plan slot next
+        → run_matches_under scheduler plan next ≡ run_matches_under scheduler plan slot ++ replicate (next - slot) (unmatched (ports_of plan)) }
 {}
 
 /// The lines of the plan's reference are those of the run: that it leaves out packets that go nowhere, and

@@ -3,7 +3,7 @@ ghost use Rattle.cell_cutter.specs.declared.sizes.TheConstants.{MAX_CAPTURED_BYT
 ghost use Rattle.card_core.specs.declared.plan.Planned.{Planned as APlanned};
 ghost use Rattle.card_core.specs.Plans.{IsGoodPlan, plan_of};
 ghost use Rattle.card_core.specs.Queues.{is_routed};
-ghost use Rattle.switch_plan.specs.GoodPlans.{IsGood, IsBurst, switch_plan_of};
+ghost use Rattle.switch_plan.specs.GoodPlans.{IsGood, IsCountable, switch_plan_of};
 ghost use Rattle.reference_run.specs.Meeting.{coming_of, coming_in};
 ghost use Rattle.reference_run.specs.MeetingSteps.{IsReferenceOf};
 
@@ -14,11 +14,11 @@ use rotating_pick::{OutOfMemory, is_empty};
 use std::alloc::{AllocError, Global};
 use switch_plan::Plan;
 
-/// The reference of a good plan of a burst, before slot 0: its ports, its depth, and of each card the packets
+/// The reference of a good plan that is countable, before slot 0: its ports, its depth, and of each card the packets
 /// that go anywhere. The only error is want of memory.
 pub fn reference_of(alloc: Global, plan: &Plan) -> Result<Reference, OutOfMemory>
     requires good { IsGood (switch_plan_of plan.now) }
-    requires burst { IsBurst (switch_plan_of plan.now) }
+    requires countable { IsCountable (switch_plan_of plan.now) }
     ensures { IfOk result (λ reference. IsReferenceOf (switch_plan_of plan.now) reference []) }
 {
     let mut coming = Vec::with_capacity(alloc, plan.cards.len())?;

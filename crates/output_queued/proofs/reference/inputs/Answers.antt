@@ -41,7 +41,6 @@ make-requires c =
       some = c.requires.some;
       size = c.requires.size;
       deep = c.requires.deep;
-      depth_in = c.requires.depth_in;
       input = c.requires.each (length at.yielded) x.items there;
     }
 

@@ -1,4 +1,4 @@
-use Rattle.std.proofs.Common.{◌≡◌, ◌∙◌, ◌+◌, ◌<◌, ℕ, List, [], ◌∷◌, ◌++◌, map, take, length, slice_get, slice_index_or, Some, ap, sym}
+use Rattle.std.proofs.Common.{◌≡◌, ◌∙◌, ◌<◌, ℕ, List, [], ◌∷◌, ◌++◌, map, take, length, slice_get, slice_index_or, Some, ap, sym}
 use Rattle.std.proofs.Common.{subst, arith}
 use Rattle.std.specs.Prelude.{Result, Ok, Err, IfOk}
 use Rattle.std.proofs.lemmas.List.{map-append, length-map, take_all, map_more}
@@ -60,7 +60,7 @@ make-requires c =
     ∙ sym (map-map coming_in plan_of items) in
     let count : length (map plan_of items) ≡ c.len-n.result = length-map items plan_of ∙ sym (c.len-n.ensures ∙ c.args.plan.now.cards.ok.0) in
     subst (λ n. IsSwitch n c.args.plan.now.depth (map (λ list. list.items) c.loop-card.coming.items)) count
-    (subst (IsSwitch (length (map plan_of items)) c.args.plan.now.depth) (sym whole) (told-switch (switch_plan_of c.args.plan.now) c.requires.good c.requires.burst))
+    (subst (IsSwitch (length (map plan_of items)) c.args.plan.now.depth) (sym whole) (told-switch (switch_plan_of c.args.plan.now) c.requires.good c.requires.countable))
 
 pub returns : goal.returns
 returns c =

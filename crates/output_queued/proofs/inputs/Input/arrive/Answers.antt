@@ -7,7 +7,7 @@ use Rattle.output_queued.specs.Switches.{planned_of, card_for}
 use Rattle.output_queued.specs.NotingSteps.{Source, IsBefore}
 use Rattle.output_queued.specs.Steps.{IsPart, HasEntered}
 use Rattle.output_queued.specs.contracts.inputs.Input.{the_view}
-use Rattle.output_queued.proofs.Sources.{few_coming, none_at, one_at, may_at}
+use Rattle.output_queued.proofs.Sources.{none_at, one_at, may_at}
 use Rattle.output_queued.proofs.inputs.Input.arrive.Goals as goal
 use Rattle.output_queued.proofs.inputs.Input.arrive.Goals.{then-admitted, else-admitted}
 
@@ -42,7 +42,7 @@ overflow_add-self c =
     let there : slice_get s0.coming s0.next ≡ Some c.in_ok-packet.packet =
     ap (λ (cs : List Coming). slice_get cs c.self.inside.next) (sym c.deref.ensures.value) ∙ c.in_ok-packet.ensures.there.0 in
     let inside : s0.next < length s0.coming = slice_get_within s0.coming s0.next c.in_ok-packet.packet there in
-    let few = few_coming n depth s0.coming (subst (λ (s : Source). IsPart n depth s.coming) (sym c.self.view_is) part) in
+    let few = (subst (λ (s : Source). IsPart n depth s.coming) (sym c.self.view_is) part).input.few in
     omega arith
 
 pub returns-clause-entered : goal.returns-clause-entered

@@ -3,11 +3,11 @@ use Rattle.voq_banks.specs.Queues.{empty_queues as empty_unis}
 use Rattle.multicast_queue.specs.FanQueues.{empty_queues as empty_fans}
 use Rattle.card_core.specs.StateSteps.{HasRooms}
 use Rattle.output_queued.specs.Switches.{planned_of}
-use Rattle.output_queued.proofs.Sources.{few_coming, begins_as}
+use Rattle.output_queued.proofs.Sources.{begins_as}
 use Rattle.output_queued.proofs.inputs.Input.make.Goals as goal
 
 pub count_rooms-requires-clause-few : goal.count_rooms-requires-clause-few
-count_rooms-requires-clause-few c = let few = few_coming c.args.n c.args.depth c.args.coming.items c.requires in let e = ap length c.deref.ensures.value in
+count_rooms-requires-clause-few c = let few = c.requires.input.few in let e = ap length c.deref.ensures.value in
     omega arith
 
 pub make-requires-clause-some : goal.make-requires-clause-some

@@ -1,4 +1,4 @@
-use Rattle.std.proofs.Common.{◌≡◌, ◌∙◌, true, map, ap, sym, subst, arith}
+use Rattle.std.proofs.Common.{◌≡◌, ◌∙◌, ◌<◌, true, map, ap, sym, subst, arith}
 use Rattle.std.proofs.lemmas.Bool.{eqb-true, eq-eqb, le-ltb, both_ways}
 use Rattle.card_core.specs.StateSteps.{row_of}
 use Rattle.output_queued.specs.NotingSteps.{Source, State, MayNote}
@@ -20,7 +20,7 @@ returns-then-are_rows c =
               let are : w.are_rows.result ≡ true = sym w.value-is ∙ all in
               let same : rows ≡ map (λ (source : Source). row_of source.banks source.fans) s0.sources = w.are_rows.ensures.0 are
               ∙ ap (map (λ (source : Source). row_of source.banks source.fans)) w.deref.ensures.value in
-              subst (λ (s : State). MayNote s rows matched) c.self.view_is
+              subst (λ (s : State). MayNote s rows matched × (s.slots < 262145)) c.self.view_is
               (note_from s0 c.self.invariant.0 c.self.invariant.1 rows matched v.if-self-lt-MAX_SLOTS.true v.ports.result ports v.ports.ensures.whole same
               (c.are_named.ensures.0 named))
           | else-self-lt-MAX_SLOTS v ↦ absurd
@@ -28,7 +28,7 @@ returns-then-are_rows c =
         ]
         | else-ports-self w ↦ absurd (both_ways c.if-ports-self.value (w.value-is ∙ w.if-ports-self.false) all)
       ],
-      λ may. c.are_named.ensures.1 may.2.named,
+      λ may. c.are_named.ensures.1 may.0.2.named,
     )
 
 pub returns-else-are_rows : goal.returns-else-are_rows
@@ -39,7 +39,7 @@ returns-else-are_rows c =
     let none = c.if-are_rows.false in (
       λ no_. absurd (cc),
       λ may'.
-          let may = subst (λ (s : State). MayNote s rows matched) (sym c.self.view_is) may' in
+          let (may, early) = subst (λ (s : State). MayNote s rows matched × (s.slots < 262145)) (sym c.self.view_is) may' in
           elim c.if-ports-self.branch [
             | then-ports-self w ↦
                 let same = note_rows s0 rows matched may ∙ sym (ap (map (λ (source : Source). row_of source.banks source.fans)) w.deref.ensures.value) in
@@ -51,8 +51,6 @@ returns-else-are_rows c =
                   let test = eq-eqb v.ports.result c.self.inside.ports ports in
                   absurd (both_ways c.if-self-lt-MAX_SLOTS.value w.if-ports-self.false (v.value-is ∙ test))
               | else-self-lt-MAX_SLOTS v ↦
-                  let slots = may.1.stands.slots in
-                  let few = may.2.few in
                   let past = v.if-self-lt-MAX_SLOTS.false in
                   absurd (omega arith)
             ]
