@@ -1,5 +1,5 @@
 -- The notes of a run that grow by a slot.
-use Rattle.std.proofs.Common.{◌≡◌, ◌<◌, ◌+◌, ◌++◌, ℕ, zero, suc, List, [], ◌∷◌, map, length, get_or, Option, None, Some, IfSome}
+use Rattle.std.proofs.Common.{◌≡◌, ◌<◌, ◌+◌, ◌++◌, ℕ, zero, suc, Bool, true, List, [], ◌∷◌, map, length, get_or, Option, None, Some, IfSome}
 use Rattle.std.proofs.Common.{refl, sym, ap, subst, ◌∙◌, arith}
 use Rattle.std.specs.List.{enumerate_from, range_with_len}
 use Rattle.std.proofs.lemmas.List.{append-nil, length-map, map-append}
@@ -23,6 +23,9 @@ use Rattle.run_laws.specs.Ends.{IsLengthUnder}
 use Rattle.run_laws.specs.Runs.{journal_under, posts_under, run_journal, slot_under, IsSlotUnder}
 use Rattle.run_laws.specs.RunSteps.{run_slot}
 use Rattle.run_laws.proofs.Base.{requested}
+use Rattle.run_laws.proofs.Limits.{slots_few}
+use Rattle.run_laws.proofs.RunEnds.{run_bound}
+use Rattle.run_laws.proofs.RunWork.{total_admitted-le}
 use Rattle.journal_check.specs.Texts.{file_post, file_slot}
 use Rattle.journal_check.specs.WritingSteps.{WriterValue}
 use Rattle.run_journals.specs.RunFiles.{run_file_under}
@@ -31,10 +34,9 @@ use Rattle.output_queued.specs.NotingSteps.{MayNote, State, cards_in}
 use Rattle.output_queued.specs.Switches.{Matched}
 use Rattle.reference_run.specs.MeetingSteps.{IsReferenceOf, run_rows_under}
 use Rattle.reference_run.specs.RunLines.{run_matches_under}
-use Rattle.reference_run.proofs.Matches.{run-few}
 use Rattle.reference_run.proofs.Told.{line-told}
 use Rattle.run_sinks.specs.NotedSlots.{IsRunSlot}
-use Rattle.run_notes.specs.NotingSteps.{IsJournalOf, IsReferenceAfter}
+use Rattle.run_notes.specs.NotingSteps.{IsJournalOf, IsKept, IsReferenceAfter}
 
 -- f of each place and of what g makes there
 places-range : {X Y : Type 0} (f : ℕ → X → Y) (g : ℕ → X) (a n : ℕ)
@@ -90,15 +92,19 @@ file_more scheduler plan t posts matched is =
     ∙ ap (λ (m : Matched). map file_slot journal ++ (record { posts = map file_post posts; matched = m }) ∷ []) (sym is.matched_is))
 
 -- the writer of a run's first slots may put a slot of the run
-pub writer_below : (scheduler : Scheduler) (plan : SwitchPlan) (t slots : ℕ) → IsScheduler scheduler → IsGood plan → IsBurst plan
-    → IsLengthUnder scheduler plan slots → t < slots
-    → (journal : Option WriterValue) → IfSome journal (IsJournalOf scheduler plan t) → IfSome journal (λ writer. writer.slots < MAX_SLOTS)
-writer_below scheduler plan t slots scheduling good burst ends below None none = none
-writer_below scheduler plan t slots scheduling good burst ends below (Some writer) is =
-    let few = run-few scheduler scheduling plan good burst slots ends in
+pub writer_below : (scheduler : Scheduler) (plan : SwitchPlan) (t slots : ℕ) (is_wanted : Bool) → IsScheduler scheduler → IsGood plan
+    → (is_wanted ≡ true → IsBurst plan)
+    → IsLengthUnder scheduler plan slots → t < slots → (journal : Option WriterValue) → IsKept is_wanted (IsJournalOf scheduler plan t) journal
+    → IfSome journal (λ writer. writer.slots < MAX_SLOTS)
+writer_below scheduler plan t slots is_wanted scheduling good burst ends below None kept = tt
+writer_below scheduler plan t slots is_wanted scheduling good burst ends below (Some writer) kept =
+    let most = slots_few plan good (burst (sym kept.there)) in
+    let bound = run_bound scheduler scheduling plan good slots ends in
+    let work = total_admitted-le scheduler plan slots in
+    let max = good.max_slots in
     let count : length (run_file_under scheduler plan t).slots ≡ t = length-map (journal_under scheduler plan t) file_slot
     ∙ length-map-range_with_len (slot_under scheduler plan) 0 t in
-    omega (arith, is.slots)
+    omega (arith, most, bound, work, max, count, kept.holds.slots)
 
 -- the reference may note a slot that may come next
 pub may_note_slot : (scheduler : Scheduler) (plan : SwitchPlan) (t : ℕ) (reference : Option State) (posts : List Post) (matched : Matched)

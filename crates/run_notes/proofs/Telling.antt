@@ -36,15 +36,15 @@ pub passed_on : {T : Type 0} (r : Result T NotesFault) (fault : NotesFault) (P :
 passed_on (Ok x) fault P is p = tt
 passed_on (Err e) fault P is p = subst P (sym is) p
 
-pub journal_stops : (scheduler : Scheduler) (wanted : Wanted) (plan : SwitchPlan) (slots : ℕ) (fault : NotesFault)
-    → StopsJournal wanted.journal (journal_text_under scheduler plan slots) fault → StopsTold scheduler wanted plan slots fault
-journal_stops scheduler wanted plan slots (JournalTooLong size) stops = stops
-journal_stops scheduler wanted plan slots (PacketsTooLong size) stops = absurd stops
-journal_stops scheduler wanted plan slots OutOfMemory stops = tt
+pub journal_stops : (scheduler : Scheduler) (wanted : Wanted) (long : Bool) (plan : SwitchPlan) (slots : ℕ) (fault : NotesFault)
+    → StopsJournal wanted.journal (journal_text_under scheduler plan slots) fault → StopsTold scheduler wanted long plan slots fault
+journal_stops scheduler wanted long plan slots (JournalTooLong size) stops = stops
+journal_stops scheduler wanted long plan slots (PacketsTooLong size) stops = absurd stops
+journal_stops scheduler wanted long plan slots OutOfMemory stops = tt
 
-pub packets_stop : (scheduler : Scheduler) (wanted : Wanted) (plan : SwitchPlan) (slots : ℕ) (fault : NotesFault)
+pub packets_stop : (scheduler : Scheduler) (wanted : Wanted) (long : Bool) (plan : SwitchPlan) (slots : ℕ) (fault : NotesFault)
     → (wanted.journal ≡ true → length (journal_text_under scheduler plan slots) ≤ MAX_JOURNAL_BYTES)
-    → StopsPackets wanted.packets (packets_text_under scheduler plan slots) fault → StopsTold scheduler wanted plan slots fault
-packets_stop scheduler wanted plan slots (JournalTooLong size) fits stops = absurd stops
-packets_stop scheduler wanted plan slots (PacketsTooLong size) fits (is_wanted, is, long) = (is_wanted, is, long, fits)
-packets_stop scheduler wanted plan slots OutOfMemory fits stops = tt
+    → StopsPackets wanted.packets long (packets_text_under scheduler plan slots) fault → StopsTold scheduler wanted long plan slots fault
+packets_stop scheduler wanted long plan slots (JournalTooLong size) fits stops = absurd stops
+packets_stop scheduler wanted long plan slots (PacketsTooLong size) fits (short, is_wanted, is, longer) = (short, is_wanted, is, longer, fits)
+packets_stop scheduler wanted long plan slots OutOfMemory fits stops = tt

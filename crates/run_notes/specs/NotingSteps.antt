@@ -1,9 +1,9 @@
 -- Steps of proofs: what the notes of a run hold after so many of its slots, and why its texts are not made.
-use Rattle.std.specs.Prelude.{◌≡◌, ℕ, ◌<◌, ◌≤◌, if◌then◌else◌, Bool, true, List, Option, None, Some, IfSome, is_some, length, option_map, string_bytes}
+use Rattle.std.specs.Prelude.{◌≡◌, ℕ, ◌<◌, ◌≤◌, if◌then◌else◌, Bool, true, false, List, Option, None, Some, IfSome, is_some, length, option_map, string_bytes}
 use Rattle.eslip_rounds.specs.Schedulers.{Scheduler}
 use Rattle.slot_report.specs.Lines.{lines_text}
 use Rattle.slot_report.specs.Texts.{journal_line, map_with_place}
-use Rattle.switch_plan.specs.GoodPlans.{SwitchPlan, IsGood, IsBurst}
+use Rattle.switch_plan.specs.GoodPlans.{SwitchPlan, IsGood, IsBurst, IsCountable}
 use Rattle.run_laws.specs.Runs.{journal_under}
 use Rattle.journal_check.specs.declared.limits.TheConstants.{MAX_JOURNAL_BYTES}
 use Rattle.journal_check.specs.WritingSteps.{WriterValue, IsWriting}
@@ -55,10 +55,11 @@ AreQueuesAfter scheduler plan t measures = HasNotedQueues scheduler plan measure
 abbrev pub AreTimesAfter : Scheduler → SwitchPlan → ℕ → Times → Type 0
 AreTimesAfter scheduler plan t times = HasNotedTimes scheduler plan times t
 
--- The first t slots of the plan's run under the scheduler are noted.
+-- The first t slots of the plan's run under the scheduler are noted. A journal is kept of a burst alone.
 pub record HasNoted (scheduler : Scheduler) (plan : SwitchPlan) (notes : Notes) (t : ℕ) : Type 0 where
   pub good : IsGood plan
-  pub burst : IsBurst plan
+  pub countable : IsCountable plan
+  pub burst : notes.wanted.journal ≡ true → IsBurst plan
   pub slots : IsKept notes.wanted.slots (AreLinesOf scheduler plan t) notes.slots
   pub journal : IsKept notes.wanted.journal (IsJournalOf scheduler plan t) notes.journal
   pub reference : IsKept notes.wanted.reference (IsReferenceAfter scheduler plan t) notes.reference
@@ -75,14 +76,15 @@ told_by texts = record {
   packets = option_map string_bytes texts.packets;
 }
 
--- Why the texts of a run are not made: its journal is wanted and too long, or else its packets file is, or there is no memory.
-abbrev pub StopsTold : Scheduler → Wanted → SwitchPlan → ℕ → NotesFault → Type 0
-StopsTold scheduler wanted plan slots (JournalTooLong size) =
+-- Why the texts of a run, which is long or not, are not made: its journal is wanted and too long, or else the packets file of a
+-- run that is not long is, or there is no memory.
+abbrev pub StopsTold : Scheduler → Wanted → Bool → SwitchPlan → ℕ → NotesFault → Type 0
+StopsTold scheduler wanted long plan slots (JournalTooLong size) =
     (wanted.journal ≡ true) × (size ≡ length (journal_text_under scheduler plan slots)) × (MAX_JOURNAL_BYTES < size)
-StopsTold scheduler wanted plan slots (PacketsTooLong size) =
-    (wanted.packets ≡ true) × (size ≡ length (packets_text_under scheduler plan slots)) × (MAX_PACKETS_BYTES < size)
+StopsTold scheduler wanted long plan slots (PacketsTooLong size) =
+    (long ≡ false) × (wanted.packets ≡ true) × (size ≡ length (packets_text_under scheduler plan slots)) × (MAX_PACKETS_BYTES < size)
     × (wanted.journal ≡ true → length (journal_text_under scheduler plan slots) ≤ MAX_JOURNAL_BYTES)
-StopsTold scheduler wanted plan slots OutOfMemory = Unit {0}
+StopsTold scheduler wanted long plan slots OutOfMemory = Unit {0}
 
 -- why the bytes of a journal are not made: they are wanted, and too long
 abbrev pub StopsJournal : Bool → List ℕ → NotesFault → Type 0
@@ -90,13 +92,13 @@ StopsJournal is_wanted text (JournalTooLong size) = (is_wanted ≡ true) × (siz
 StopsJournal is_wanted text (PacketsTooLong size) = ⊥
 StopsJournal is_wanted text OutOfMemory = ⊥
 
--- why a packets file is not made: it is wanted and too long, or there is no memory
-abbrev pub StopsPackets : Bool → List ℕ → NotesFault → Type 0
-StopsPackets is_wanted text (PacketsTooLong size) = (is_wanted ≡ true) × (size ≡ length text) × (MAX_PACKETS_BYTES < size)
-StopsPackets is_wanted text (JournalTooLong size) = ⊥
-StopsPackets is_wanted text OutOfMemory = Unit {0}
+-- why a packets file is not made: it is wanted and too long, and the run is not long, or there is no memory
+abbrev pub StopsPackets : Bool → Bool → List ℕ → NotesFault → Type 0
+StopsPackets is_wanted long text (PacketsTooLong size) = (long ≡ false) × (is_wanted ≡ true) × (size ≡ length text) × (MAX_PACKETS_BYTES < size)
+StopsPackets is_wanted long text (JournalTooLong size) = ⊥
+StopsPackets is_wanted long text OutOfMemory = Unit {0}
 
--- a packets file, where it is wanted, of no more bytes than it may have
-pub record IsPacketsFile (is_wanted : Bool) (text : List ℕ) (bytes : Option (List ℕ)) : Type 0 where
+-- a packets file, where it is wanted, of no more bytes than it may have where the run is not long
+pub record IsPacketsFile (is_wanted long : Bool) (text : List ℕ) (bytes : Option (List ℕ)) : Type 0 where
   pub is : bytes ≡ (if is_wanted then Some text else None)
-  pub small : IfSome bytes (λ b. length b ≤ MAX_PACKETS_BYTES)
+  pub small : long ≡ false → IfSome bytes (λ b. length b ≤ MAX_PACKETS_BYTES)

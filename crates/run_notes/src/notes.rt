@@ -1,20 +1,21 @@
-ghost use Rattle.std.specs.Prelude.{◌≡◌, ◌<◌, ◌≤◌, ◌+◌, ℕ, length, IfErr, IfOk, IfSome, OnOk};
+ghost use Rattle.std.specs.Prelude.{◌≡◌, ◌<◌, ◌≤◌, ◌+◌, ℕ, false, true, length, IfErr, IfOk, IfSome, OnOk};
 ghost use Rattle.eslip_rounds.specs.Schedulers.{Scheduler, IsScheduler};
 ghost use Rattle.eslip_rounds.specs.Decisions.{decision_of};
-ghost use Rattle.switch_plan.specs.GoodPlans.{SwitchPlan, IsGood, IsBurst, switch_plan_of};
+ghost use Rattle.switch_plan.specs.GoodPlans.{SwitchPlan, IsGood, IsBurst, IsCountable, switch_plan_of};
 ghost use Rattle.run_laws.specs.Ends.{IsLength, IsLengthUnder};
 ghost use Rattle.run_laws.specs.Runs.{run_journal};
 ghost use Rattle.journal_check.specs.declared.limits.TheConstants.{MAX_JOURNAL_BYTES};
 ghost use Rattle.packet_times.specs.declared.limits.TheConstants.{MAX_PACKETS_BYTES};
+ghost use Rattle.idle_slots.specs.Skipped.{IsGap};
 ghost use Rattle.run_sinks.specs.NotedSlots.{IsRunSlot};
 ghost use Rattle.run_notes.specs.NotingSteps.{HasNoted, StopsTold, told_by};
 ghost use Rattle.run_notes.specs.Told.{told_under};
-ghost use Rattle.run_notes.specs.UnwantedSteps.{wants_any, still_noted};
+ghost use Rattle.run_notes.specs.UnwantedSteps.{wants_any, wants_each, still_noted};
 
 use crate::journal::{bytes_of, journal_for, put_slot_into};
 use crate::packets::{note_times, packets_file, times_for};
 use crate::queues::{measures_for, note_queues, queue_lines};
-use crate::reference::{note_matched, reference_for, reference_lines};
+use crate::reference::{note_matched, reference_for, reference_lines, skip_matched};
 use crate::slot_lines::{lines_for, lines_or_empty, put_line_of};
 use crate::texts::{NotedTexts, NotesFault};
 use crate::wanted::Wanted;
@@ -63,11 +64,12 @@ impl Model for RunNotes {
 }
 
 impl RunNotes {
-    /// The notes of the run of a good plan of a burst, before slot 0, for the texts that are wanted. Want of memory is the only
-    /// error.
+    /// The notes of the run of a good plan that is countable, before slot 0, for the texts that are wanted. The
+    /// plan is of a burst where its journal is wanted. Want of memory is the only error.
     pub fn make(alloc: Global, wanted: Wanted, plan: &Plan) -> Result<RunNotes, OutOfMemory>
         requires good { IsGood (switch_plan_of plan.now) }
-        requires burst { IsBurst (switch_plan_of plan.now) }
+        requires countable { IsCountable (switch_plan_of plan.now) }
+        requires burst { wanted.journal ≡ true → IsBurst (switch_plan_of plan.now) }
         ensures wanted { IfOk result (λ notes. notes.wanted ≡ wanted) }
         ensures noted { IfOk result (λ notes. (scheduler : Scheduler) → HasNoted scheduler (switch_plan_of plan.now) notes 0) }
     {
@@ -108,18 +110,18 @@ impl RunNotes {
     }
 
     /// The texts of a run that has come to its end, of which all slots are noted. The journal's length is tested first, then
-    /// that of the packets file; the other error is want of memory.
-    pub fn texts(self, alloc: Global) -> Result<NotedTexts, NotesFault>
+    /// that of the packets file, which has no limit where the run is long; the other error is want of memory.
+    pub fn texts(self, alloc: Global, long: bool) -> Result<NotedTexts, NotesFault>
         requires { (scheduler : Scheduler) × (plan : SwitchPlan) × (slots : ℕ) × IsLengthUnder scheduler plan slots × HasNoted scheduler plan self slots }
         ensures made { (scheduler : Scheduler) (plan : SwitchPlan) (slots : ℕ) → IsLengthUnder scheduler plan slots
             → HasNoted scheduler plan self slots → IfOk result (λ texts. told_by texts ≡ told_under scheduler self.wanted plan slots) }
         ensures small_journal { IfOk result (λ texts. IfSome (told_by texts).journal (λ bytes. length bytes ≤ MAX_JOURNAL_BYTES)) }
-        ensures small_packets { IfOk result (λ texts. IfSome (told_by texts).packets (λ bytes. length bytes ≤ MAX_PACKETS_BYTES)) }
+        ensures small_packets { long ≡ false → IfOk result (λ texts. IfSome (told_by texts).packets (λ bytes. length bytes ≤ MAX_PACKETS_BYTES)) }
         ensures stops { (scheduler : Scheduler) (plan : SwitchPlan) (slots : ℕ) → IsLengthUnder scheduler plan slots
-            → HasNoted scheduler plan self slots → IfErr result (StopsTold scheduler self.wanted plan slots) }
+            → HasNoted scheduler plan self slots → IfErr result (StopsTold scheduler self.wanted long plan slots) }
     {
         let journal = bytes_of(self.journal)?;
-        let packets = packets_file(alloc, &self.packets)?;
+        let packets = packets_file(alloc, &self.packets, long)?;
         let reference = reference_lines(alloc, &self.reference)?;
         let queues = queue_lines(alloc, &self.queues)?;
         let slots = lines_or_empty(alloc, self.slots);
@@ -140,12 +142,18 @@ impl SlotSink for RunNotes {
 
     ghost wants_any = { wants_any };
 
+    ghost wants_each = { wants_each };
+
     ghost noted = { λ notes scheduler plan t. HasNoted scheduler plan notes t };
 
     ghost unwanted = { still_noted };
 
     fn wants_slots(&self) -> bool {
         self.wanted.is_any()
+    }
+
+    fn wants_gaps(&self) -> bool {
+        self.wanted.is_each()
     }
 
     // After want of memory no text can be made of these notes.
@@ -162,5 +170,13 @@ impl SlotSink for RunNotes {
         note_matched(&mut self.reference, &mut self.rows, posts, matched)?;
         note_queues(&mut self.queues, slot, posts, matched);
         note_times(&mut self.packets, slot, posts, matched)
+    }
+
+    // Of the queues and the packets all stays as it was.
+    fn skip(&mut self, slot: u32, next: u32) {
+        reference_run::laws::gaps_may_be_skipped();
+        queue_measures::laws::gaps_keep_measures();
+        packet_times::laws::gaps_keep_times();
+        skip_matched(&mut self.reference, next - slot);
     }
 }

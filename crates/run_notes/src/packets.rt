@@ -1,6 +1,6 @@
 ghost use Rattle.std.specs.Prelude.{◌+◌, ℕ, Bool, option_map, IfErr, IfOk, IfSome, OnOk, string_bytes};
 ghost use Rattle.eslip_rounds.specs.Schedulers.{Scheduler};
-ghost use Rattle.switch_plan.specs.GoodPlans.{SwitchPlan, IsGood, IsBurst, switch_plan_of};
+ghost use Rattle.switch_plan.specs.GoodPlans.{SwitchPlan, IsGood, IsCountable, switch_plan_of};
 ghost use Rattle.run_laws.specs.Promises.{ArrivalsComeFirst};
 ghost use Rattle.run_laws.specs.Runs.{IsSlotUnder};
 ghost use Rattle.packet_times.specs.Rows.{packets_text_under};
@@ -21,7 +21,7 @@ pub(crate) fn times_for(
     plan: &Plan,
 ) -> Result<Option<PacketTimes>, OutOfMemory>
     requires good { IsGood (switch_plan_of plan.now) }
-    requires burst { IsBurst (switch_plan_of plan.now) }
+    requires countable { IsCountable (switch_plan_of plan.now) }
     ensures { IfOk result (λ times. (scheduler : Scheduler) → IsKept is_wanted (AreTimesAfter scheduler (switch_plan_of plan.now) 0) times) }
 {
     if is_wanted {
@@ -49,23 +49,26 @@ pub(crate) fn note_times(
     }
 }
 
-/// The packets file, of at most 134,217,728 bytes, where it is wanted.
+/// The packets file, where it is wanted: of at most 134,217,728 bytes where the run is not long.
 pub(crate) fn packets_file(
     alloc: Global,
     times: &Option<PacketTimes>,
+    long: bool,
 ) -> Result<Option<String>, NotesFault>
     ensures bytes { (scheduler : Scheduler) (plan : SwitchPlan) (is_wanted : Bool) (slots : ℕ) → IsKept is_wanted (AreTimesAfter scheduler plan slots) times.now
         → ArrivalsComeFirst plan slots
-        → IfOk result (λ text. IsPacketsFile is_wanted (packets_text_under scheduler plan slots) (option_map string_bytes text)) }
+        → IfOk result (λ text. IsPacketsFile is_wanted long (packets_text_under scheduler plan slots) (option_map string_bytes text)) }
     ensures stops { (scheduler : Scheduler) (plan : SwitchPlan) (is_wanted : Bool) (slots : ℕ) → IsKept is_wanted (AreTimesAfter scheduler plan slots) times.now
-        → ArrivalsComeFirst plan slots → IfErr result (StopsPackets is_wanted (packets_text_under scheduler plan slots)) }
+        → ArrivalsComeFirst plan slots → IfErr result (StopsPackets is_wanted long (packets_text_under scheduler plan slots)) }
 {
     let Some(times) = times else {
         return Ok(None);
     };
-    let len = times.len(alloc)?;
-    if len > MAX_PACKETS_BYTES as u64 {
-        return Err(NotesFault::PacketsTooLong(len));
+    if !long {
+        let len = times.len(alloc)?;
+        if len > MAX_PACKETS_BYTES as u64 {
+            return Err(NotesFault::PacketsTooLong(len));
+        }
     }
     Ok(Some(times.text(alloc)?))
 }

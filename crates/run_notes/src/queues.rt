@@ -1,7 +1,7 @@
 ghost use Rattle.std.specs.Prelude.{◌≡◌, ◌+◌, ℕ, Bool, if◌then◌else◌, [], IfOk, IfSome, string_bytes};
 ghost use Rattle.eslip_rounds.specs.Schedulers.{Scheduler};
 ghost use Rattle.slot_report.specs.Lines.{lines_text};
-ghost use Rattle.switch_plan.specs.GoodPlans.{SwitchPlan, IsGood, IsBurst, switch_plan_of};
+ghost use Rattle.switch_plan.specs.GoodPlans.{SwitchPlan, IsGood, IsCountable, switch_plan_of};
 ghost use Rattle.run_laws.specs.Promises.{ArrivalsComeFirst};
 ghost use Rattle.run_laws.specs.Runs.{IsSlotUnder};
 ghost use Rattle.queue_measures.specs.Lines.{queue_lines_under};
@@ -21,7 +21,7 @@ pub(crate) fn measures_for(
     plan: &Plan,
 ) -> Result<Option<QueueMeasures>, OutOfMemory>
     requires good { IsGood (switch_plan_of plan.now) }
-    requires burst { IsBurst (switch_plan_of plan.now) }
+    requires countable { IsCountable (switch_plan_of plan.now) }
     ensures { IfOk result (λ measures. (scheduler : Scheduler) → IsKept is_wanted (AreQueuesAfter scheduler (switch_plan_of plan.now) 0) measures) }
 {
     if is_wanted {

@@ -1,10 +1,13 @@
-ghost use Rattle.std.specs.Prelude.{◌≡◌, ◌∷◌, ◌++◌, ℕ, Bool, if◌then◌else◌, List, [], map, IfOk, IfSome, OnOk, string_bytes};
+ghost use Rattle.std.specs.Prelude.{◌≡◌, ◌<◌, ◌+◌, ◌^◌, ◌∷◌, ◌++◌, ℕ, Bool, if◌then◌else◌, List, [], map, replicate, IfOk, IfSome, OnOk, string_bytes};
 ghost use Rattle.std.specs.List.{range_with_len};
+ghost use Rattle.slot_match.specs.Matches.{unmatched};
 ghost use Rattle.eslip_rounds.specs.Schedulers.{Scheduler};
 ghost use Rattle.slot_report.specs.Lines.{lines_text};
-ghost use Rattle.switch_plan.specs.GoodPlans.{SwitchPlan, IsGood, IsBurst, switch_plan_of};
+ghost use Rattle.switch_plan.specs.GoodPlans.{SwitchPlan, IsGood, IsCountable, switch_plan_of};
+ghost use Rattle.run_laws.specs.Runs.{ports_of};
 ghost use Rattle.output_queued.specs.Lines.{line_of};
 ghost use Rattle.output_queued.specs.NotingSteps.{HasNoted, MayNote, cards_in};
+ghost use Rattle.output_queued.specs.QuietSteps.{IsQuietFor};
 ghost use Rattle.output_queued.specs.Switches.{Matched};
 ghost use Rattle.reference_run.specs.MeetingSteps.{IsReferenceOf};
 ghost use Rattle.reference_run.specs.RunLines.{run_lines_under};
@@ -25,7 +28,7 @@ pub(crate) fn reference_for(
     plan: &Plan,
 ) -> Result<Option<Reference>, OutOfMemory>
     requires good { IsGood (switch_plan_of plan.now) }
-    requires burst { IsBurst (switch_plan_of plan.now) }
+    requires countable { IsCountable (switch_plan_of plan.now) }
     ensures { IfOk result (λ reference. (scheduler : Scheduler) → IsKept is_wanted (IsReferenceAfter scheduler (switch_plan_of plan.now) 0) reference) }
 {
     if is_wanted {
@@ -51,6 +54,18 @@ pub(crate) fn note_matched(
         reference.note(rows, matched);
     }
     Ok(())
+}
+
+/// Notes so many slots more in which nothing comes, waits or is matched, where the reference is wanted.
+pub(crate) fn skip_matched(reference: &mut Option<Reference>, slots: u32)
+    requires quiet { IfSome reference.old (λ r. (matches : List Matched) × HasNoted r matches × IsQuietFor r matches slots) }
+    requires few { IfSome reference.old (λ r. r.slots + slots < 2 ^ 32) }
+    ensures { (plan : SwitchPlan) (is_wanted : Bool) (matches : List Matched) → IsKept is_wanted (λ r. IsReferenceOf plan r matches) reference.old
+        → IsKept is_wanted (λ r. IsReferenceOf plan r (matches ++ replicate slots (unmatched (ports_of plan)))) reference.new }
+{
+    if let Some(reference) = reference {
+        reference.skip(slots);
+    }
 }
 
 // Puts the rows of the posts into the list, and nothing else.

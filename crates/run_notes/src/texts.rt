@@ -14,7 +14,7 @@ pub struct NotedTexts {
     pub reference: String,
     /// The lines of the queues, empty where they are not wanted.
     pub queues: String,
-    /// The packets file, of at most 134,217,728 bytes, where it is wanted.
+    /// The packets file, where it is wanted: of at most 134,217,728 bytes where the run is not long.
     pub packets: Option<String>,
 }
 
@@ -23,7 +23,7 @@ pub struct NotedTexts {
 pub enum NotesFault {
     /// The journal would have this many bytes, more than 134,217,728.
     JournalTooLong(u64),
-    /// The packets file would have this many bytes, more than 134,217,728.
+    /// The packets file would have this many bytes, more than 134,217,728, and the run is not long.
     PacketsTooLong(u64),
     /// There was no memory.
     OutOfMemory,

@@ -1,5 +1,5 @@
 ghost use Rattle.std.specs.Prelude.{◌≡◌};
-ghost use Rattle.run_notes.specs.UnwantedSteps.{wants_any};
+ghost use Rattle.run_notes.specs.UnwantedSteps.{wants_any, wants_each};
 
 /// What a run is to tell beside its captures, the report's numbers and the summary.
 #[derive(Clone, Copy, Debug, PartialEq, Eq)]
@@ -22,5 +22,12 @@ impl Wanted {
         ensures { result ≡ wants_any self }
     {
         self.slots || self.journal || self.reference || self.queues || self.packets
+    }
+
+    /// Whether slots in which nothing happens are wanted one by one.
+    pub(crate) fn is_each(self) -> bool
+        ensures { result ≡ wants_each self }
+    {
+        self.slots || self.journal
     }
 }

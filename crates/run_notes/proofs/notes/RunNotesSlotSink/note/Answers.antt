@@ -19,14 +19,14 @@ pub put_slot_into-requires-clause-slots : goal.put_slot_into-requires-clause-slo
 put_slot_into-requires-clause-slots c =
     let (scheduler, plan, slots, scheduling, ends, below, noted, is) = c.requires in
     let old = subst (λ (n : Notes). HasNoted scheduler plan n c.args.slot) (sym c.self.view_is) noted in
-    writer_below scheduler plan c.args.slot slots scheduling noted.good noted.burst ends below _ old.journal.holds
+    writer_below scheduler plan c.args.slot slots c.self.inside.wanted.journal scheduling noted.good old.burst ends below _ old.journal
 
 pub note_matched-requires : goal.note_matched-requires
 note_matched-requires c =
     let (scheduler, plan, slots, scheduling, ends, below, noted, is) = c.requires in
     let old = subst (λ (n : Notes). HasNoted scheduler plan n c.args.slot) (sym c.self.view_is) noted in
     may_note_slot scheduler plan c.args.slot _ c.args.posts.now c.args.matched.now is.slot
-    (λ r after. c.slots_may_be_noted.ensures.may scheduler plan r c.args.slot slots scheduling noted.good noted.burst ends below after) old.reference.holds
+    (λ r after. c.slots_may_be_noted.ensures.may scheduler plan r c.args.slot slots scheduling noted.good noted.countable ends below after) old.reference.holds
 
 pub note_queues-requires : goal.note_queues-requires
 note_queues-requires c =
@@ -54,7 +54,8 @@ returns-clause-noted c = λ scheduler plan noted is.
     on_ok_weaker c.note_times.result
     (λ packets. record {
       good = noted.good;
-      burst = noted.burst;
+      countable = noted.countable;
+      burst = old.burst;
       slots = c.in_ok-put_line_of.ensures scheduler plan wanted.slots c.args.posts.now old.slots is;
       journal = c.in_ok-put_slot_into.ensures scheduler plan wanted.journal t old.journal is.slot;
       reference = subst (λ (all : List Matched). IsKept wanted.reference (λ r. IsReferenceOf plan r all) c.note_matched.new.reference)
