@@ -1,23 +1,22 @@
 -- The files that a run reads, one after the other.
-use Rattle.std.proofs.Common.{◌≡◌, ◌<◌, ◌≤◌, ◌+◌, ℕ, List, [], ◌∷◌, ◌++◌, map, take, length, get_or, Option, Some, None, sym, ◌∙◌, ap, arith}
-use Rattle.std.specs.Prelude.{IfSome, Result, Vec, is_ok, true, if◌then◌else◌}
+use Rattle.std.proofs.Common.{◌≡◌, ◌<◌, ◌≤◌, ◌+◌, ◌^◌, ℕ, Bool, List, [], ◌∷◌, ◌++◌, map, take, length, get_or, Option, Some, None, sym, ◌∙◌, ap, arith}
+use Rattle.std.specs.Prelude.{IfSome, Result, Vec, is_ok, true, false, if◌then◌else◌}
 use Rattle.std.proofs.lemmas.List.{length_push, map_more, map_push, take_more}
 use Rattle.std.proofs.lemmas.List.Elements.{All-more, All-push}
 use Rattle.outside.specs.Contents.{Contents}
 use Rattle.switch_words.specs.Limits.{IsUpTo}
-use Rattle.job_files.specs.Inputs.{AreFilesRead, CapturesRead, EarlierFit}
+use Rattle.job_files.specs.Inputs.{AreFilesRead, CaptureFits, CapturesRead, EarlierFit}
 use Rattle.job_files.specs.FileSteps.{AreOfSize}
-use Rattle.rotating_pick.specs.declared.limits.TheConstants.{MAX_FILE_BYTES, MAX_PORTS}
-use Rattle.outside.specs.WholeFiles.{Fits}
+use Rattle.rotating_pick.specs.declared.limits.TheConstants.{MAX_PORTS}
 use Rattle.switch_plan.specs.ReadingSteps.{bytes_of_files}
-use Rattle.job_files.specs.Jobs.{ReadWords}
+use Rattle.job_files.specs.Jobs.{ReadWords, capture_bytes}
 use Rattle.job_files.specs.declared.inputs.InputFile.TheVariants.{Capture}
 
 -- one file more is there
 pub earlier_more : (r : ReadWords) (told : Option Contents) (port : ℕ) (bytes : List ℕ) → port < length r.inputs → IfSome told (EarlierFit r (Capture port))
-    → IfSome told (λ c. c.file (get_or r.inputs port []) ≡ Some bytes) → length bytes ≤ MAX_FILE_BYTES → IfSome told (EarlierFit r (Capture (port + 1)))
+    → IfSome told (λ c. c.file (get_or r.inputs port []) ≡ Some bytes) → length bytes ≤ capture_bytes r.long → IfSome told (EarlierFit r (Capture (port + 1)))
 earlier_more r None port bytes within earlier there fits = tt
-earlier_more r (Some c) port bytes within earlier there fits = (earlier.0, All-more (Fits c) r.inputs port [] within earlier.1 (bytes, there, fits))
+earlier_more r (Some c) port bytes within earlier there fits = (earlier.0, All-more (CaptureFits r.long c) r.inputs port [] within earlier.1 (bytes, there, fits))
 
 there_more : (names : List (List ℕ)) (told : Option Contents) (i : ℕ) (captures : List (List ℕ)) (bytes : List ℕ) → i < length names
     → IfSome told (λ c. map (λ name. c.file name) (take i names) ≡ map (λ b. Some b) captures) → IfSome told (λ c. c.file (get_or names i []) ≡ Some bytes)
@@ -30,14 +29,14 @@ there_more names (Some c) i captures bytes within there here =
     ∙ sym (map_push (λ b. Some b) captures bytes)
 
 -- one capture more is read
-pub captures_more : (names : List (List ℕ)) (told : Option Contents) (i : ℕ) (captures : List (List ℕ)) (bytes : List ℕ) → i < length names
-    → CapturesRead (take i names) told captures
-    → IfSome told (λ c. c.file (get_or names i []) ≡ Some bytes) → length bytes ≤ MAX_FILE_BYTES
-    → CapturesRead (take (i + 1) names) told (captures ++ bytes ∷ [])
-captures_more names told i captures bytes within read here fits = record {
+pub captures_more : (long : Bool) (names : List (List ℕ)) (told : Option Contents) (i : ℕ) (captures : List (List ℕ)) (bytes : List ℕ) → i < length names
+    → CapturesRead long (take i names) told captures
+    → IfSome told (λ c. c.file (get_or names i []) ≡ Some bytes) → length bytes ≤ capture_bytes long
+    → CapturesRead long (take (i + 1) names) told (captures ++ bytes ∷ [])
+captures_more long names told i captures bytes within read here fits = record {
   count = length_push captures bytes ∙ ap (λ n. n + 1) read.count
       ∙ sym (ap length (take_more names i [] within) ∙ length_push (take i names) (get_or names i []));
-  fit = All-push (λ b. length b ≤ MAX_FILE_BYTES) captures bytes read.fit fits;
+  fit = All-push (λ b. length b ≤ capture_bytes long) captures bytes read.fit fits;
   there = there_more names told i captures bytes within read.there here;
 }
 
@@ -47,11 +46,16 @@ pub bytes_pushed : {A B T E : Type 0} (r : Result T E) (new old : Vec (Vec ℕ A
     → bytes_of_files new ≡ bytes_of_files old ++ capture.items ∷ []
 bytes_pushed r new old capture e ok = ap (map (λ v. v.items)) (rw ok at e) ∙ map_push (λ v. v.items) old.items capture
 
+-- 32 bits count the bytes of a capture
+counted : (long : Bool) (n : ℕ) → n ≤ capture_bytes long → n < 2 ^ 32
+counted true n fits = omega (arith, fits)
+counted false n fits = omega (arith, fits)
+
 -- what is read of 1 to 64 ports is within the limits of a plan
 pub read_of_size : (r : ReadWords) (told : Option Contents) (table : List ℕ) (captures : List (List ℕ)) → AreFilesRead r told table captures
     → IsUpTo MAX_PORTS (length r.inputs) → AreOfSize table captures
 read_of_size r told table captures read ports = record {
   ports = record { some = omega (arith, read.captures_read.count, ports.some); most = omega (arith, read.captures_read.count, ports.most) };
   table_fits = read.table_fits;
-  captures_fit = read.captures_read.fit;
+  captures_fit = λ k d k_in. counted r.long _ (read.captures_read.fit k d k_in);
 }

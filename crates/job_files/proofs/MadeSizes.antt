@@ -1,5 +1,5 @@
 -- How long the table and the captures of a `gen` job are.
-use Rattle.std.proofs.Common.{◌≡◌, ◌<◌, ◌≤◌, ◌+◌, ◌-◌, ◌*◌, ◌%◌, ℕ, Bool, true, false, List, [], ◌∷◌, ◌++◌, length, refl, sym, ◌∙◌, ap, subst, arith}
+use Rattle.std.proofs.Common.{◌≡◌, ◌<◌, ◌≤◌, ◌+◌, ◌-◌, ◌*◌, ◌%◌, ◌^◌, ℕ, Bool, true, false, List, [], ◌∷◌, ◌++◌, length, refl, sym, ◌∙◌, ap, subst, arith}
 use Rattle.std.proofs.Common.{length-append}
 use Rattle.std.specs.Prelude.{All, flat_map, replicate, decimal, codes, if◌then◌else◌}
 use Rattle.std.proofs.Math.Nat.{mod-lt}
@@ -134,11 +134,11 @@ pub made_of_size : (job : GenJob) (table : List ℕ) (captures : List (List ℕ)
 made_of_size job table captures some few packets table_is captures_are =
     let ports : length captures ≡ job.ports = ap length captures_are ∙ length-map (below job.ports) (made_capture job) ∙ length-range_with_len 0 job.ports in
     let short = table_short job.ports some few in
-    let fit : All (λ bytes. length bytes ≤ 16777216) (made_captures job) = All-map (λ bytes. length bytes ≤ 16777216) (made_capture job) (below job.ports)
-    (all_below (λ port. length (made_capture job port) ≤ 16777216) job.ports
+    let fit : All (λ bytes. length bytes < 2 ^ 32) (made_captures job) = All-map (λ bytes. length bytes < 2 ^ 32) (made_capture job) (below job.ports)
+    (all_below (λ port. length (made_capture job port) < 2 ^ 32) job.ports
     (λ port port_in. let capture = capture_short job port packets in omega (arith, capture))) in
     record {
       ports = record { some = omega (arith, ports, some); most = omega (arith, ports, few) };
       table_fits = omega (arith, short, ap length table_is);
-      captures_fit = All-same (λ bytes. length bytes ≤ 16777216) captures (made_captures job) captures_are fit;
+      captures_fit = All-same (λ bytes. length bytes < 2 ^ 32) captures (made_captures job) captures_are fit;
     }

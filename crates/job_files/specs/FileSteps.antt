@@ -1,13 +1,13 @@
 -- Why the reading or the writing of a job's files stops: the words of the calls inside.
-use Rattle.std.specs.Prelude.{◌≡◌, ◌<◌, ◌≤◌, ℕ, ◌+◌, ◌==◌, ◌&&◌, nat_lt, if◌then◌else◌, Bool, true, List, take, length, map, All, Option, IfSome}
+use Rattle.std.specs.Prelude.{◌≡◌, ◌<◌, ◌≤◌, ℕ, ◌+◌, ◌^◌, ◌==◌, ◌&&◌, nat_lt, if◌then◌else◌, Bool, true, List, take, length, map, All, Option, IfSome}
 use Rattle.std.specs.Prelude.{option_map, slice_index_or, string_bytes}
 use Rattle.rotating_pick.specs.declared.limits.TheConstants.{MAX_PORTS, MAX_FILE_BYTES}
 use Rattle.outside.specs.Contents.{Contents, append_out}
 use Rattle.outside.specs.Faults.{Place, ReadOf, ToOut, Rose}
-use Rattle.outside.specs.WholeFiles.{IsTooLong, NamedBytes, StopsAt}
+use Rattle.outside.specs.WholeFiles.{NamedBytes, StopsAt}
 use Rattle.switch_words.specs.Limits.{IsUpTo}
 use Rattle.job_files.specs.Jobs.{ReadWords, input_name, IsInput}
-use Rattle.job_files.specs.Inputs.{EarlierFit}
+use Rattle.job_files.specs.Inputs.{EarlierFit, IsTooLongFor}
 use Rattle.job_files.specs.OutputFiles.{nameless, packets_place, put_files}
 use Rattle.job_files.specs.declared.inputs.Reads.{Reads}
 use Rattle.job_files.specs.declared.ending.Written.{Written}
@@ -15,21 +15,21 @@ use Rattle.job_files.specs.declared.ending.Written.TheVariants.{Output, Report, 
 use Rattle.job_files.specs.declared.ending.Ending.{Ending}
 use Rattle.job_files.specs.declared.ending.Ending.TheVariants.{ReadFault, TooLong, OutOfMemory}
 
--- a table and captures that no limit of files or ports refuses
+-- a table and captures that no limit of files or ports refuses, whatever the job
 pub record AreOfSize (table : List ℕ) (captures : List (List ℕ)) : Type 0 where
   pub ports : IsUpTo MAX_PORTS (length captures)
   pub table_fits : length table ≤ MAX_FILE_BYTES
-  pub captures_fit : All (λ bytes. length bytes ≤ MAX_FILE_BYTES) captures
+  pub captures_fit : All (λ bytes. length bytes < 2 ^ 32) captures
 
 -- the names of files, as words
 abbrev pub reads_words : Reads → ReadWords
-reads_words reads = record { table = reads.table.now; inputs = map string_bytes reads.inputs.now }
+reads_words reads = record { table = reads.table.now; inputs = map string_bytes reads.inputs.now; long = reads.long }
 
 -- why the files of these names are not read
 abbrev pub StopsReading : ReadWords → Option Contents → (Place → ℕ) → (Place → ℕ) → Ending → Type 0
 StopsReading r old was now (ReadFault input) = IsInput r input × IfSome old (EarlierFit r input)
     × Rose (was (ReadOf (input_name r input))) (now (ReadOf (input_name r input)))
-StopsReading r old was now (TooLong input) = IsInput r input × IfSome old (EarlierFit r input) × IfSome old (λ c. IsTooLong c (input_name r input))
+StopsReading r old was now (TooLong input) = IsInput r input × IfSome old (EarlierFit r input) × IfSome old (IsTooLongFor r input)
 StopsReading r old was now OutOfMemory = Unit {0}
 StopsReading r old was now _ = ⊥
 

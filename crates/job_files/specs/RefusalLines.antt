@@ -6,7 +6,7 @@ use Rattle.pcap_records.specs.Texts as Captures
 use Rattle.forward_table.specs.declared.faults.TableFault.{TableFault}
 use Rattle.forward_table.specs.Texts as Tables
 use Rattle.switch_plan.specs.declared.fault.PlanFault.{PlanFault}
-use Rattle.switch_plan.specs.declared.fault.PlanFault.TheVariants.{Table, Capture, MixedLink, TooManySlots, TooManyCells, OutOfMemory}
+use Rattle.switch_plan.specs.declared.fault.PlanFault.TheVariants.{Table, Capture, MixedLink, TooManySlots, TooManyPackets, TooManyCells, OutOfMemory}
 
 -- the line where memory runs out
 abbrev pub memory_line : List ℕ
@@ -26,5 +26,6 @@ refusal_line (Table fault) = table_line fault
 refusal_line (Capture port fault) = capture_line port fault
 refusal_line (MixedLink first other) = concat (codes "link types " ∷ decimal first ∷ codes " and " ∷ decimal other ∷ codes "\n" ∷ [])
 refusal_line (TooManySlots port slots) = concat (codes "too many slots: port " ∷ decimal port ∷ codes " has " ∷ decimal slots ∷ codes "\n" ∷ [])
+refusal_line (TooManyPackets packets) = concat (codes "too many packets: " ∷ decimal packets ∷ codes "\n" ∷ [])
 refusal_line (TooManyCells cells) = concat (codes "too many cells: " ∷ decimal cells ∷ codes "\n" ∷ [])
 refusal_line OutOfMemory = memory_line

@@ -196,6 +196,10 @@ fn print_refusal<F: Files>(files: &mut F, fault: PlanFault)
                 Text("\n"),
             ],
         ),
+        PlanFault::TooManyPackets { packets } => give_parts(
+            files,
+            &[Text("too many packets: "), Number(packets), Text("\n")],
+        ),
         PlanFault::TooManyCells { cells } => give_parts(
             files,
             &[Text("too many cells: "), Number(cells), Text("\n")],

@@ -6,11 +6,12 @@ ghost use Rattle.switch_words.specs.Reading.{run_words, firm_words};
 ghost use Rattle.switch_plan.specs.Made.{made_table, made_captures};
 ghost use Rattle.switch_plan.specs.ReadingSteps.{bytes_of_files};
 ghost use Rattle.job_files.specs.Inputs.{AreFilesRead, CapturesRead, EarlierFit};
-ghost use Rattle.job_files.specs.Jobs.{IsInput, input_name, run_reads, firm_reads};
+ghost use Rattle.job_files.specs.Jobs.{IsInput, input_name, most_bytes, run_reads, firm_reads};
 ghost use Rattle.job_files.specs.FileSteps.{AreOfSize, StopsReading, reads_words};
 ghost use Rattle.job_files.specs.Statuses.{refused_by};
 
 use crate::ending::Ending;
+use crate::limits::capture_bytes;
 use outside::{Files, ReadFailure, read_buffer, read_whole};
 use rotating_pick::{MAX_FILE_BYTES, MAX_PORTS, OutOfMemory};
 use std::alloc::Global;
@@ -38,6 +39,8 @@ pub struct Reads<'a> {
     pub table: &'a str,
     /// That of the capture of each port, from port 0 on.
     pub inputs: &'a [String],
+    /// Whether the job is long: then a capture may have more bytes.
+    pub long: bool,
 }
 
 /// The names of the files that a `run` job reads.
@@ -48,6 +51,7 @@ pub fn reads_of_run(job: &RunJob) -> Reads<'_>
     Reads {
         table: job.table.as_str(),
         inputs: job.inputs.as_slice(),
+        long: job.settings.long,
     }
 }
 
@@ -59,6 +63,7 @@ pub fn reads_of_firm(job: &FirmJob) -> Reads<'_>
     Reads {
         table: job.table.as_str(),
         inputs: job.inputs.as_slice(),
+        long: job.settings.long,
     }
 }
 
@@ -72,6 +77,16 @@ pub fn input_name<'a>(reads: &Reads<'a>, input: InputFile) -> &'a str
             Some(name) => name.as_str(),
             None => "",
         },
+    }
+}
+
+// The most bytes of the table, or of the capture of a port.
+fn most_bytes(reads: &Reads<'_>, input: InputFile) -> usize
+    ensures { result ≡ most_bytes (reads_words reads.now) input }
+{
+    match input {
+        InputFile::Table => MAX_FILE_BYTES,
+        InputFile::Capture(_) => capture_bytes(reads.long),
     }
 }
 
@@ -91,10 +106,11 @@ fn read_input<F: Files>(
     ensures refused { IfErr result (λ ending. OnlyRose (refused_by ending) (F.faults files.old) (F.faults files.new)) }
     ensures never_fall { NeverFall (F.faults files.old) (F.faults files.new) }
     ensures bytes { IfOk result (λ v. IfSome (F.told files.old) (λ c. c.file (input_name (reads_words reads.now) input) ≡ Some v.items)) }
-    ensures fits { IfOk result (λ v. length v.items ≤ MAX_FILE_BYTES) }
+    ensures fits { IfOk result (λ v. length v.items ≤ most_bytes (reads_words reads.now) input) }
     ensures stops { IfErr result (StopsReading (reads_words reads.now) (F.told files.old) (F.faults files.old) (F.faults files.new)) }
 {
-    match read_whole(alloc, files, input_name(reads, input), MAX_FILE_BYTES, buf) {
+    let (name, most) = (input_name(reads, input), most_bytes(reads, input));
+    match read_whole(alloc, files, name, most, buf) {
         Ok(bytes) => Ok(bytes),
         Err(ReadFailure::Fault) => Err(Ending::ReadFault(input)),
         Err(ReadFailure::TooLong) => Err(Ending::TooLong(input)),
@@ -116,7 +132,7 @@ fn read_captures<F: Files>(
     ensures no_fault { OnOk result (NoneRose (F.faults files.old) (F.faults files.new)) }
     ensures refused { IfErr result (λ ending. OnlyRose (refused_by ending) (F.faults files.old) (F.faults files.new)) }
     ensures never_fall { NeverFall (F.faults files.old) (F.faults files.new) }
-    ensures read { IfOk result (λ v. CapturesRead (reads_words reads.now).inputs (F.told files.old) (bytes_of_files v)) }
+    ensures read { IfOk result (λ v. CapturesRead reads.now.long (reads_words reads.now).inputs (F.told files.old) (bytes_of_files v)) }
     ensures stops { IfErr result (StopsReading (reads_words reads.now) (F.told files.old) (F.faults files.old) (F.faults files.new)) }
 {
     let mut captures = Vec::new(alloc);

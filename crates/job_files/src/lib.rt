@@ -4,6 +4,7 @@
 mod ending;
 mod error_lines;
 mod inputs;
+mod limits;
 mod output_files;
 
 pub use ending::{Ending, Written};
@@ -11,4 +12,5 @@ pub use error_lines::{print_line, print_memory, print_usage};
 pub use inputs::{
     InputFile, Inputs, Reads, input_name, made_inputs, read_inputs, reads_of_firm, reads_of_run,
 };
+pub use limits::{MAX_LONG_CAPTURE, limits_are};
 pub use output_files::{JobTexts, OutputFile, put_texts, run_files};

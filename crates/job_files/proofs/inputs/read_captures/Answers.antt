@@ -30,6 +30,6 @@ loop-port-preserved g c =
       never_fall = λ p. omega (arith, c.loop-port.invariant.never_fall p, c.in_ok-capture.ensures.never_fall p);
       room = omega (arith, c.read_input.auto.buf, c.loop-port.invariant.room);
       earlier = earlier_more words _ c.loop-port.port c.in_ok-capture.capture.items within c.loop-port.invariant.earlier here c.in_ok-capture.ensures.fits;
-      read = rw pushed (captures_more words.inputs _ c.loop-port.port _ c.in_ok-capture.capture.items within c.loop-port.invariant.read
+      read = rw pushed (captures_more words.long words.inputs _ c.loop-port.port _ c.in_ok-capture.capture.items within c.loop-port.invariant.read
           here c.in_ok-capture.ensures.fits);
     }

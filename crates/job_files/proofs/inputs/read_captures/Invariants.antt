@@ -17,5 +17,5 @@ invariant-loop-port g l =
       never_fall : NeverFall (counts l.fn.files) (counts l.files);
       room : 0 < length l.buf;
       earlier : IfSome (contents l.fn.files) (EarlierFit (reads_words l.reads) (Capture l.port));
-      read : CapturesRead (take l.port (reads_words l.reads).inputs) (contents l.fn.files) (bytes_of_files l.captures);
+      read : CapturesRead l.reads.long (take l.port (reads_words l.reads).inputs) (contents l.fn.files) (bytes_of_files l.captures);
     }
