@@ -1,23 +1,22 @@
 -- When each answer comes: what the meaning of an ending says against all others.
 use Rattle.std.proofs.Common.{◌≡◌, ◌<◌, ◌≤◌, ℕ, List, [], ◌∷◌, map, take, length, get_or, Option, Some, None, inl, inr, refl, sym, ◌∙◌, ap, subst, arith}
-use Rattle.std.specs.Prelude.{◌⊎◌, false, is_some}
+use Rattle.std.specs.Prelude.{◌⊎◌, Bool, false, is_some}
 use Rattle.std.proofs.lemmas.Bool.{cases_lt}
 use Rattle.std.proofs.lemmas.List.{get_or-map, get_or-take, length-take-le}
 use Rattle.std.proofs.lemmas.List.Elements.{All-get_or}
 use Rattle.std.proofs.lemmas.Option.{same_Some, none-some}
-use Rattle.rotating_pick.specs.declared.limits.TheConstants.{MAX_FILE_BYTES}
 use Rattle.outside.specs.Contents.{Contents}
-use Rattle.outside.specs.WholeFiles.{Fits, IsTooLong}
+use Rattle.outside.specs.WholeFiles.{IsLongerThan}
 use Rattle.switch_words.specs.declared.job.Settings.{Settings}
 use Rattle.switch_words.specs.Reading.{JobWords, run, gen, check, firm, CheckWords}
-use Rattle.switch_plan.specs.GoodPlans.{SwitchPlan, IsGood, IsBurst}
+use Rattle.switch_plan.specs.GoodPlans.{SwitchPlan, IsGood}
 use Rattle.run_laws.specs.Ends.{IsLengthUnder}
 use Rattle.named_schedulers.specs.Named.{decision_named}
 use Rattle.switch_run.specs.Causes.{Answers, IsReadable, IsRunFor, TooLongIsExact, UsageIsExact, scheduler_in}
 use Rattle.switch_run.specs.Endings.{Command, IsFirstTooLong, IsMade, IsStopped, Stops}
 use Rattle.job_files.specs.Statuses.{check_status, status_of}
-use Rattle.job_files.specs.Inputs.{AreFilesRead, AreInputs, CapturesRead, EarlierFit}
-use Rattle.job_files.specs.Jobs.{ReadWords, reads_of, IsInput, input_name}
+use Rattle.job_files.specs.Inputs.{AreFilesRead, AreInputs, CaptureFits, CapturesRead, EarlierFit, IsTooLongFor}
+use Rattle.job_files.specs.Jobs.{ReadWords, reads_of, IsInput, capture_bytes, input_name, most_bytes}
 use Rattle.job_files.specs.OutputFiles.{Texts}
 use Rattle.switch_run.specs.Switched.{AreTexts, IsPlanned}
 use Rattle.journal_command.specs.declared.ending.CheckEnding.{CheckEnding}
@@ -30,41 +29,47 @@ use Rattle.job_files.specs.declared.inputs.InputFile.TheVariants.{Table, Capture
 
 -- Files that are there, and not too long
 
-not_both_long : (c : Contents) (name : List ℕ) → Fits c name → IsTooLong c name → ⊥
-not_both_long c name fits long = let same : fits.0 ≡ long.0 = cc in let n = ap length same in omega (arith, n, fits.2, long.2)
+-- the file is there, and has no more bytes than these
+abbrev HasUpTo : ℕ → Contents → List ℕ → Type 0
+HasUpTo limit c name = (bytes : List ℕ) × (c.file name ≡ Some bytes) × (length bytes ≤ limit)
 
-capture_there : (names : List (List ℕ)) (c : Contents) (captures : List (List ℕ)) (port : ℕ) → CapturesRead names (Some c) captures → port < length names
-    → Fits c (get_or names port [])
-capture_there names c captures port read within =
+not_both_long : (limit : ℕ) (c : Contents) (name : List ℕ) → HasUpTo limit c name → IsLongerThan limit c name → ⊥
+not_both_long limit c name fits long = let same : fits.0 ≡ long.0 = cc in let n = ap length same in omega (arith, n, fits.2, long.2)
+
+capture_there : (long : Bool) (names : List (List ℕ)) (c : Contents) (captures : List (List ℕ)) (port : ℕ)
+    → CapturesRead long names (Some c) captures → port < length names → CaptureFits long c (get_or names port [])
+capture_there long names c captures port read within =
     let inside : port < length captures = omega (arith, read.count) in (
       get_or captures port [],
       sym (get_or-map (λ name. c.file name) names port [] None within) ∙ ap (λ os. get_or os port None) read.there
           ∙ get_or-map (λ b. Some b) captures port [] None inside,
-      All-get_or (λ b. length b ≤ MAX_FILE_BYTES) captures port [] inside read.fit,
+      All-get_or (λ b. length b ≤ capture_bytes long) captures port [] inside read.fit,
     )
 
 -- what was read is not too long
 read_fits : (r : ReadWords) (c : Contents) (table : List ℕ) (captures : List (List ℕ)) (input : InputFile) → AreFilesRead r (Some c) table captures
-    → IsInput r input → Fits c (input_name r input)
+    → IsInput r input → HasUpTo (most_bytes r input) c (input_name r input)
 read_fits r c table captures Table read known = (table, read.table_there, read.table_fits)
-read_fits r c table captures (Capture port) read known = capture_there r.inputs c captures port read.captures_read known
+read_fits r c table captures (Capture port) read known = capture_there r.long r.inputs c captures port read.captures_read known
 
 long_was_read : (r : ReadWords) (c : Contents) (table : List ℕ) (captures : List (List ℕ)) (input : InputFile) → AreFilesRead r (Some c) table captures
-    → IsInput r input → IsTooLong c (input_name r input) → ⊥
-long_was_read r c table captures input read known long = not_both_long c (input_name r input) (read_fits r c table captures input read known) long
+    → IsInput r input → IsTooLongFor r input c → ⊥
+long_was_read r c table captures input read known long =
+    not_both_long (most_bytes r input) c (input_name r input) (read_fits r c table captures input read known) long
 
-earlier_capture : (r : ReadWords) (c : Contents) (p q : ℕ) → p < q → q < length r.inputs → EarlierFit r (Capture q) c → IsTooLong c (get_or r.inputs p []) → ⊥
+earlier_capture : (r : ReadWords) (c : Contents) (p q : ℕ) → p < q → q < length r.inputs → EarlierFit r (Capture q) c → IsTooLongFor r (Capture p) c → ⊥
 earlier_capture r c p q less within earlier long =
     let short : p < length (take q r.inputs) = omega (arith, length-take-le q r.inputs (omega arith)) in
-    not_both_long c (get_or r.inputs p [])
-    (subst (λ (name : List ℕ). Fits c name) (get_or-take q r.inputs p [] less) (All-get_or (Fits c) (take q r.inputs) p [] short earlier.1)) long
+    not_both_long (capture_bytes r.long) c (get_or r.inputs p [])
+    (subst (λ (name : List ℕ). CaptureFits r.long c name) (get_or-take q r.inputs p [] less)
+    (All-get_or (CaptureFits r.long c) (take q r.inputs) p [] short earlier.1)) long
 
 -- two files that are each the first that is too long are one
-first_long : (r : ReadWords) (c : Contents) (a b : InputFile) → IsInput r a → IsInput r b → EarlierFit r a c → EarlierFit r b c → IsTooLong c (input_name r a)
-    → IsTooLong c (input_name r b) → a ≡ b
+first_long : (r : ReadWords) (c : Contents) (a b : InputFile) → IsInput r a → IsInput r b → EarlierFit r a c → EarlierFit r b c → IsTooLongFor r a c
+    → IsTooLongFor r b c → a ≡ b
 first_long r c Table Table known_a known_b earlier_a earlier_b long_a long_b = refl
-first_long r c Table (Capture q) known_a known_b earlier_a earlier_b long_a long_b = absurd (not_both_long c r.table earlier_b.0 long_a)
-first_long r c (Capture p) Table known_a known_b earlier_a earlier_b long_a long_b = absurd (not_both_long c r.table earlier_a.0 long_b)
+first_long r c Table (Capture q) known_a known_b earlier_a earlier_b long_a long_b = absurd (not_both_long (most_bytes r Table) c r.table earlier_b.0 long_a)
+first_long r c (Capture p) Table known_a known_b earlier_a earlier_b long_a long_b = absurd (not_both_long (most_bytes r Table) c r.table earlier_a.0 long_b)
 first_long r c (Capture p) (Capture q) known_a known_b earlier_a earlier_b long_a long_b =
     elim (cases_lt p q) [
       | inl less ↦ absurd (earlier_capture r c p q less known_b earlier_b long_a)
@@ -184,7 +189,7 @@ no_read_fault c job contents input read s = let stops = stops_here c job content
 record IsLongOf (r : ReadWords) (contents : Contents) (input : InputFile) : Type 0 where
   pub known : IsInput r input
   pub earlier : EarlierFit r input contents
-  pub longer : IsTooLong contents (input_name r input)
+  pub longer : IsTooLongFor r input contents
 
 long_of : (job : JobWords) (r : ReadWords) (contents : Contents) (input : InputFile) → reads_of job ≡ Some r → IsFirstTooLong job (Some contents) input
     → IsLongOf r contents input
@@ -195,7 +200,7 @@ long_of job r contents input is f =
 -- a file of the inputs is not too long
 pub long_of_inputs : (job : JobWords) (r : ReadWords) (c : Contents) (table : List ℕ) (captures : List (List ℕ)) (input : InputFile) → reads_of job ≡ Some r
     → AreInputs job (Some c) table captures → IsInput r input
-    → IsTooLong c (input_name r input) → ⊥
+    → IsTooLongFor r input c → ⊥
 long_of_inputs job r c table captures input reads inputs known long =
     long_was_read r c table captures input (files_read job r (Some c) table captures reads inputs) known long
 
@@ -235,13 +240,6 @@ run_good (run r) table captures plan slots is = is.planned.good
 run_good (gen g) table captures plan slots is = is.planned.good
 run_good (check w) table captures plan slots is = absurd is
 run_good (firm f) table captures plan slots is = absurd is
-
-pub run_burst : (job : JobWords) (table : List ℕ) (captures : List (List ℕ)) (plan : SwitchPlan) (slots : ℕ) → IsRunFor job table captures plan slots
-    → IsBurst plan
-run_burst (run r) table captures plan slots is = is.planned.burst
-run_burst (gen g) table captures plan slots is = is.planned.burst
-run_burst (check w) table captures plan slots is = absurd is
-run_burst (firm f) table captures plan slots is = absurd is
 
 pub run_plan : (job : JobWords) (table : List ℕ) (captures : List (List ℕ)) (plan : SwitchPlan) (slots : ℕ) → IsRunFor job table captures plan slots
     → (settings : Settings) × IsPlanned settings table captures plan

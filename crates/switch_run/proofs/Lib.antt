@@ -10,6 +10,7 @@ pub mod RunTexts
 pub mod OnePlan
 pub mod Checking
 pub mod OtherWorkers
+pub mod LongRuns
 pub mod RunsMade
 pub mod Bounds
 pub mod MadeInputs

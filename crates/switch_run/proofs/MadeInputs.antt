@@ -7,7 +7,7 @@ use Rattle.switch_words.specs.declared.job.GenJob.{GenJob}
 use Rattle.switch_words.specs.Reading.{JobWords, run, gen, check, RunWords, CheckWords}
 use Rattle.switch_plan.specs.declared.fault.PlanFault.{PlanFault}
 use Rattle.switch_plan.specs.Made.{made_table, made_captures}
-use Rattle.switch_plan.specs.Refusals.{IsRefusal}
+use Rattle.switch_plan.specs.Refusals.{IsRefusal, terms_of}
 use Rattle.switch_plan.proofs.Refused.{refusal_once}
 use Rattle.job_files.specs.Jobs.{ReadWords, reads_of}
 use Rattle.job_files.specs.OutputFiles.{Texts}
@@ -34,12 +34,12 @@ not_check g w same = absurd (cc)
 
 -- the inputs that it makes are refused for this
 abbrev IsRefusedMade : GenJob → PlanFault → Type 0
-IsRefusedMade g fault = IsRefusal g.settings.speed (made_table g.ports) (made_captures g) fault
+IsRefusedMade g fault = IsRefusal (terms_of g.settings) (made_table g.ports) (made_captures g) fault
 
 refused_made : (g : GenJob) (old : Option Contents) (fault : PlanFault) → IsRefused (gen g) old fault → IsRefusedMade g fault
 refused_made g old fault r =
-    subst (λ (bytes : List ℕ). IsRefusal g.settings.speed bytes (made_captures g) fault) r.inputs.0
-    (subst (λ (files : List (List ℕ)). IsRefusal g.settings.speed r.table files fault) r.inputs.1 r.outcome)
+    subst (λ (bytes : List ℕ). IsRefusal (terms_of g.settings) bytes (made_captures g) fault) r.inputs.0
+    (subst (λ (files : List (List ℕ)). IsRefusal (terms_of g.settings) r.table files fault) r.inputs.1 r.outcome)
 
 -- what is refused makes no texts
 nothing_made : (g : GenJob) (old : Option Contents) (texts : Texts) (fault : PlanFault) → IsMade (gen g) old texts → IsRefusedMade g fault → ⊥
@@ -75,7 +75,7 @@ module _ (c : Command) (status : ℕ) (g : GenJob) (words : c.job ≡ Some (gen 
   refusal_made (TooLong input) a fault refused = let stops = stops_of (TooLong input) a.1 in absurd (reads_none g stops.0.words stops.0.reads)
   refusal_made (Refused found) a fault refused =
       let stops = stops_of (Refused found) a.1 in
-      let same = refusal_once g.settings.speed (made_table g.ports) (made_captures g) found fault (refused_made g c.old found stops.0) refused in
+      let same = refusal_once (terms_of g.settings) (made_table g.ports) (made_captures g) found fault (refused_made g c.old found stops.0) refused in
       inl (subst (λ (f : PlanFault). Answers c status (Refused f)) same a)
   refusal_made (JournalTooLong size) a fault refused =
       let stops = stops_of (JournalTooLong size) a.1 in

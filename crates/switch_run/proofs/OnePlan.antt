@@ -269,5 +269,5 @@ module _ (scheduler : Scheduler) (settings : Settings) (table : List ℕ) (files
       let size_is = packets_of_run p.plan p.slots size p.run q in
       let there : texts.packets ≡ Some (packets_text_under scheduler p.plan p.slots) = ap (λ (t : Texts). t.packets) p.are
       ∙ ap (λ (b : Bool). if b then Some (packets_text_under scheduler p.plan p.slots) else None) is_wanted in
-      let small = subst (λ (o : Option (List ℕ)). IfSome o (λ bytes. length bytes ≤ MAX_PACKETS_BYTES)) there p.packets_small in
+      let small = subst (λ (o : Option (List ℕ)). IfSome o (λ bytes. length bytes ≤ MAX_PACKETS_BYTES)) there (p.packets_small q.short) in
       omega (arith, small, size_is, q.longer)

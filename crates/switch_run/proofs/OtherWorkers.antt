@@ -31,7 +31,7 @@ use Rattle.switch_words.specs.declared.job.Settings.{Settings}
 use Rattle.switch_words.specs.Limits.{IsUpTo}
 use Rattle.switch_words.specs.Reading.{JobWords, run, gen, check, firm}
 use Rattle.switch_plan.specs.declared.fault.PlanFault.{PlanFault}
-use Rattle.switch_plan.specs.GoodPlans.{SwitchPlan, IsGood, IsBurst}
+use Rattle.switch_plan.specs.GoodPlans.{SwitchPlan, IsGood, IsBurst, IsCountable}
 use Rattle.run_laws.specs.Runs.{after_slot, before_under, card_at, decision_in, parts_under, journal_under, ports_of, posts_under, setup_for}
 use Rattle.run_laws.specs.Ends.{IsLengthUnder}
 use Rattle.run_laws.specs.Crossings.{cells_under, queue_to}
@@ -197,6 +197,9 @@ module _ (workers : ℕ) (few : IsUpTo MAX_WORKERS workers) where
   still_burst : (plan : SwitchPlan) → IsBurst plan → IsBurst (plan_with workers plan)
   still_burst plan burst = record { slots = burst.slots; cells = burst.cells; cards = burst.cards }
 
+  still_countable : (plan : SwitchPlan) → IsCountable plan → IsCountable (plan_with workers plan)
+  still_countable plan is = record { packets = is.packets; cells = is.cells; slots = is.slots }
+
   module _ (settings : Settings) (table : List ℕ) (files : List (List ℕ)) where
     still_planned : (plan : SwitchPlan) → IsPlanned settings table files plan → IsPlanned (settings_with workers settings) table files (plan_with workers plan)
     still_planned plan p = record {
@@ -205,7 +208,8 @@ module _ (workers : ℕ) (few : IsUpTo MAX_WORKERS workers) where
       read = p.read;
       allowed = p.allowed;
       good = still_good plan p.good;
-      burst = still_burst plan p.burst;
+      countable = still_countable plan p.countable;
+      burst = λ short. still_burst plan (p.burst short);
       planned = let of = p.planned in record {
         nano = of.nano;
         link = of.link;
@@ -282,6 +286,7 @@ same_long_packets scheduler settings workers table files size few p = record {
   plan = plan_with workers p.plan;
   slots = p.slots;
   run = still_run workers few settings table files scheduler p.plan p.slots p.run;
+  short = p.short;
   size_is = p.size_is ∙ ap length (same_packets_text scheduler workers p.plan p.slots);
   longer = p.longer;
 }

@@ -5,11 +5,11 @@ use Rattle.outside.specs.Contents.{Contents}
 use Rattle.switch_words.specs.Reading.{JobWords, run, check, RunWords, CheckWords}
 use Rattle.named_schedulers.specs.Named.{decision_named}
 use Rattle.switch_plan.specs.declared.fault.PlanFault.{PlanFault}
-use Rattle.switch_plan.specs.Refusals.{IsRefusal}
+use Rattle.switch_plan.specs.Refusals.{IsRefusal, terms_of}
 use Rattle.switch_run.specs.Causes.{Answers, JournalTooLongIsExact, PacketsTooLongIsExact, RefusalIsExact}
 use Rattle.switch_run.specs.Endings.{Command, IsFirstTooLong, IsJournalTooLong, IsPacketsTooLong}
 use Rattle.job_files.specs.Inputs.{AreInputs}
-use Rattle.job_files.specs.Jobs.{speed_in}
+use Rattle.job_files.specs.Jobs.{terms_in}
 use Rattle.job_files.specs.OutputFiles.{Texts}
 use Rattle.switch_run.specs.Switched.{AreTexts, IsLongJournal, IsLongPackets, JournalFits, wanted_by}
 use Rattle.job_files.specs.declared.ending.Ending.{Ending}
@@ -24,22 +24,22 @@ use Rattle.switch_run.proofs.Answering.{long_of_inputs, made_of, no_inputs, no_j
 -- what is refused makes no texts
 nothing_made : (job : JobWords) (c : Contents) (t u : List ℕ) (xs ys : List (List ℕ)) (fault : PlanFault) (texts : Texts) → AreInputs job (Some c) t xs
     → AreInputs job (Some c) u ys
-    → IsRefusal (speed_in job) t xs fault → AreTexts job u ys texts → ⊥
+    → IsRefusal (terms_in job) t xs fault → AreTexts job u ys texts → ⊥
 nothing_made job c t u xs ys fault texts a b refused outcome =
     let same = same_inputs job c t u xs ys a b in
     not_made job u ys fault texts
-    (subst (λ (bytes : List ℕ). IsRefusal (speed_in job) bytes ys fault) same.0
-    (subst (λ (files : List (List ℕ)). IsRefusal (speed_in job) t files fault) same.1 refused)) outcome
+    (subst (λ (bytes : List ℕ). IsRefusal (terms_in job) bytes ys fault) same.0
+    (subst (λ (files : List (List ℕ)). IsRefusal (terms_in job) t files fault) same.1 refused)) outcome
 
 -- what is refused is refused for one cause
 same_cause : (job : JobWords) (c : Contents) (t u : List ℕ) (xs ys : List (List ℕ)) (fault found : PlanFault) → AreInputs job (Some c) t xs
     → AreInputs job (Some c) u ys
-    → IsRefusal (speed_in job) t xs fault → IsRefusal (speed_in job) u ys found → found ≡ fault
+    → IsRefusal (terms_in job) t xs fault → IsRefusal (terms_in job) u ys found → found ≡ fault
 same_cause job c t u xs ys fault found a b refused outcome =
     let same = same_inputs job c t u xs ys a b in
-    refusal_once (speed_in job) u ys found fault outcome
-    (subst (λ (bytes : List ℕ). IsRefusal (speed_in job) bytes ys fault) same.0
-    (subst (λ (files : List (List ℕ)). IsRefusal (speed_in job) t files fault) same.1 refused))
+    refusal_once (terms_in job) u ys found fault outcome
+    (subst (λ (bytes : List ℕ). IsRefusal (terms_in job) bytes ys fault) same.0
+    (subst (λ (files : List (List ℕ)). IsRefusal (terms_in job) t files fault) same.1 refused))
 
 -- a file that was read is not too long
 long_input : (job : JobWords) (contents : Contents) (table : List ℕ) (captures : List (List ℕ)) (input : InputFile)
@@ -71,21 +71,21 @@ wanted_long r contents size j = (long_of_run r contents size j, ap (λ (w : RunW
 
 refused_is_not_long : (r : RunWords) (c : Contents) (t u : List ℕ) (xs ys : List (List ℕ)) (fault : PlanFault) (size : ℕ) → AreInputs (run r) (Some c) t xs
     → AreInputs (run r) (Some c) u ys
-    → IsRefusal r.settings.speed t xs fault → IsLongJournal (decision_named r.scheduler) r.settings u ys size → ⊥
+    → IsRefusal (terms_of r.settings) t xs fault → IsLongJournal (decision_named r.scheduler) r.settings u ys size → ⊥
 refused_is_not_long r c t u xs ys fault size a b refused long =
     let same = same_inputs (run r) c t u xs ys a b in
     not_long (decision_named r.scheduler) r.settings u ys fault size
-    (subst (λ (bytes : List ℕ). IsRefusal r.settings.speed bytes ys fault) same.0
-    (subst (λ (files : List (List ℕ)). IsRefusal r.settings.speed t files fault) same.1 refused)) long
+    (subst (λ (bytes : List ℕ). IsRefusal (terms_of r.settings) bytes ys fault) same.0
+    (subst (λ (files : List (List ℕ)). IsRefusal (terms_of r.settings) t files fault) same.1 refused)) long
 
 refused_or_long : (job : JobWords) (c : Contents) (table : List ℕ) (captures : List (List ℕ)) (fault : PlanFault) (size : ℕ)
-    → AreInputs job (Some c) table captures → IsRefusal (speed_in job) table captures fault
+    → AreInputs job (Some c) table captures → IsRefusal (terms_in job) table captures fault
     → IsJournalTooLong job (Some c) size → ⊥
 refused_or_long job c table captures fault size inputs refused j =
     let long = long_in job c size j in
     refused_is_not_long j.words c table long.table captures long.captures fault size
     (subst (λ (n : JobWords). AreInputs n (Some c) table captures) j.is_run inputs)
-    long.inputs (subst (λ (n : JobWords). IsRefusal (speed_in n) table captures fault) j.is_run refused) long.longer
+    long.inputs (subst (λ (n : JobWords). IsRefusal (terms_in n) table captures fault) j.is_run refused) long.longer
 
 -- nor a packets file that is too long
 record IsLongPacketsIn (r : RunWords) (contents : Contents) (size : ℕ) : Type 0 where
@@ -127,18 +127,18 @@ long_elsewhere r c t u xs ys size a b long =
 
 refused_is_not_long_packets : (r : RunWords) (c : Contents) (t u : List ℕ) (xs ys : List (List ℕ)) (fault : PlanFault) (size : ℕ)
     → AreInputs (run r) (Some c) t xs → AreInputs (run r) (Some c) u ys
-    → IsRefusal r.settings.speed t xs fault → IsLongPackets (decision_named r.scheduler) r.settings u ys size → ⊥
+    → IsRefusal (terms_of r.settings) t xs fault → IsLongPackets (decision_named r.scheduler) r.settings u ys size → ⊥
 refused_is_not_long_packets r c t u xs ys fault size a b refused long =
     not_long_packets (decision_named r.scheduler) r.settings t xs fault size refused (packets_elsewhere r c u t ys xs size b a long)
 
 refused_or_long_packets : (job : JobWords) (c : Contents) (table : List ℕ) (captures : List (List ℕ)) (fault : PlanFault) (size : ℕ)
     → AreInputs job (Some c) table captures
-    → IsRefusal (speed_in job) table captures fault → IsPacketsTooLong job (Some c) size → ⊥
+    → IsRefusal (terms_in job) table captures fault → IsPacketsTooLong job (Some c) size → ⊥
 refused_or_long_packets job c table captures fault size inputs refused p =
     let long = packets_in job c size p in
     refused_is_not_long_packets p.words c table long.table captures long.captures fault size
     (subst (λ (n : JobWords). AreInputs n (Some c) table captures) p.is_run inputs)
-    long.inputs (subst (λ (n : JobWords). IsRefusal (speed_in n) table captures fault) p.is_run refused) long.longer
+    long.inputs (subst (λ (n : JobWords). IsRefusal (terms_in n) table captures fault) p.is_run refused) long.longer
 
 pub refusal_exact : (c : Command) (status : ℕ) (ending : Ending) → Answers c status ending → RefusalIsExact c status
 refusal_exact c status Done a job contents table captures fault read inputs refused =

@@ -110,7 +110,8 @@ module _ (r : RunWords) (table : List ℕ) (captures : List (List ℕ)) (it : En
           run = the_run;
           are = refl;
           small = subst (λ (o : Option (List ℕ)). IfSome o (λ bytes. length bytes ≤ MAX_JOURNAL_BYTES)) journal_same ran.ran.small;
-          packets_small = subst (λ (o : Option (List ℕ)). IfSome o (λ bytes. length bytes ≤ MAX_PACKETS_BYTES)) packets_same ran.ran.packets_small;
+          packets_small = λ short. subst (λ (o : Option (List ℕ)). IfSome o (λ bytes. length bytes ≤ MAX_PACKETS_BYTES)) packets_same
+              (ran.ran.packets_small short);
         };
         count = length-outputs;
         outputs_are = λ words is. outputs_is ∙ count ∙ ap length captures_are;
@@ -135,7 +136,7 @@ module _ (g : GenJob) (table : List ℕ) (captures : List (List ℕ)) (numbers :
       run = record { planned = of.planned; ends = of.ran.ends };
       are = refl;
       small = tt;
-      packets_small = tt;
+      packets_small = λ short. tt;
     };
     count = length-map-range_with_len
         (λ j. capture_text of.plan.nano of.plan.link (messages_under (decision_named g.scheduler) of.plan j of.ran.slots)) 0 (ports_of of.plan)

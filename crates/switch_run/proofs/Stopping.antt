@@ -14,7 +14,7 @@ use Rattle.journal_command.specs.Checks.{MeansCheck}
 use Rattle.journal_command.specs.declared.ending.CheckEnding.{CheckEnding}
 use Rattle.journal_command.specs.declared.ending.CheckEnding.TheVariants as check_ending
 use Rattle.switch_words.specs.Reading.{JobWords, run, gen, check, firm, RunWords}
-use Rattle.job_files.specs.Jobs.{ReadWords, reads_of, speed_in, input_name}
+use Rattle.job_files.specs.Jobs.{ReadWords, reads_of, terms_in, input_name}
 use Rattle.job_files.specs.OutputFiles.{Texts, files_from, files_of, journal_files, packets_files, packets_place, put_files, put_texts, report_name, run_files}
 use Rattle.job_files.specs.Inputs.{AreInputs}
 use Rattle.job_files.specs.LineParts.{GivesLine}
@@ -104,7 +104,7 @@ reading_stops job r old told was now (Checked ending) reads same stops = absurd 
 -- the inputs were refused, or memory ran out
 pub plan_stops : (job : JobWords) (old told : Option Contents) (was now : Place → ℕ) (table : List ℕ) (captures : List (List ℕ)) (ending : Ending)
     → told ≡ old → AreInputs job old table captures
-    → StopsPlan (speed_in job) table captures ending → Stops job old was now told ending
+    → StopsPlan (terms_in job) table captures ending → Stops job old was now told ending
 plan_stops job old told was now table captures Done same inputs stops = stops
 plan_stops job old told was now table captures Usage same inputs stops = stops
 plan_stops job old told was now table captures (ReadFault input) same inputs stops = absurd stops

@@ -2,7 +2,6 @@
 use Rattle.std.specs.Prelude.{◌≡◌, ◌<◌, ◌≤◌, ◌*◌, ◌⊎◌, ℕ, true, false, List, length, Option, Some, None, Ok, Err}
 use Rattle.outside.specs.Contents.{Contents}
 use Rattle.outside.specs.Faults.{ReadOf, BeginOf, WriteOf, ToOut, NeverFall, NoneRose, Rose}
-use Rattle.outside.specs.WholeFiles.{IsTooLong}
 use Rattle.journal_check.specs.declared.verdict.Verdict.TheVariants as verdict
 use Rattle.journal_check.specs.declared.verdict.JournalFault.TheVariants as journal_fault
 use Rattle.journal_check.specs.declared.verdict.Reason.{Reason}
@@ -13,8 +12,8 @@ use Rattle.switch_words.specs.declared.job.GenJob.{GenJob}
 use Rattle.switch_words.specs.Reading.{JobWords, run, gen, check, firm, RunWords, CheckWords, FirmWords}
 use Rattle.switch_plan.specs.declared.fault.PlanFault.{PlanFault}
 use Rattle.switch_plan.specs.Made.{made_table, made_captures}
-use Rattle.switch_plan.specs.Refusals.{IsRefusal}
-use Rattle.switch_plan.specs.GoodPlans.{SwitchPlan}
+use Rattle.switch_plan.specs.Refusals.{IsRefusal, terms_of}
+use Rattle.switch_plan.specs.GoodPlans.{SwitchPlan, IsBurst}
 use Rattle.scheduler_names.specs.declared.names.SchedulerName.{SchedulerName}
 use Rattle.scheduler_names.specs.declared.names.SchedulerName.TheVariants.{Islip, Firm, Rrm}
 use Rattle.eslip_rounds.specs.Schedulers.{Scheduler}
@@ -36,9 +35,9 @@ use Rattle.output_queued.specs.Lines.{ideal, ran}
 use Rattle.reference_run.specs.RunLines.{run_matches_under}
 use Rattle.reference_run.specs.Promises.{EndsNoLaterUnder, ExtraIsDelaysUnder}
 use Rattle.scheduler_runs.specs.FirmRuns.{FirmPromises}
-use Rattle.job_files.specs.Jobs.{ReadWords, reads_of, speed_in, input_name, IsInput, RunsSwitch}
+use Rattle.job_files.specs.Jobs.{ReadWords, reads_of, terms_in, input_name, IsInput, RunsSwitch}
 use Rattle.switch_run.specs.Switched.{IsLongJournal, IsLongPackets, IsPlanned, IsRunOf, JournalFits}
-use Rattle.job_files.specs.Inputs.{EarlierFit, AreInputs}
+use Rattle.job_files.specs.Inputs.{EarlierFit, IsTooLongFor, AreInputs}
 use Rattle.job_files.specs.OutputFiles.{output_name, report_name, journal_name, packets_name}
 use Rattle.switch_run.specs.Endings.{Command, Means}
 use Rattle.job_files.specs.Statuses.{RefusedCallsEnd, status_of}
@@ -91,13 +90,13 @@ pub record UsageIsExact (c : Command) (status : ℕ) : Type 0 where
 abbrev pub TooLongIsExact : Command → ℕ → Type 0
 TooLongIsExact c status = (job : JobWords) (r : ReadWords) (contents : Contents) (input : InputFile) → IsReadable c job contents → reads_of job ≡ Some r
     → IsInput r input
-    → EarlierFit r input contents → IsTooLong contents (input_name r input) → AnswersUnlessOut c status (TooLong input)
+    → EarlierFit r input contents → IsTooLongFor r input contents → AnswersUnlessOut c status (TooLong input)
 
 -- where the bytes of the table and the captures are refused, the answer says so, or memory ran out
 abbrev pub RefusalIsExact : Command → ℕ → Type 0
 RefusalIsExact c status = (job : JobWords) (contents : Contents) (table : List ℕ) (captures : List (List ℕ)) (fault : PlanFault) → IsReadable c job contents
     → AreInputs job (Some contents) table captures
-    → IsRefusal (speed_in job) table captures fault → AnswersUnlessOut c status (Refused fault)
+    → IsRefusal (terms_in job) table captures fault → AnswersUnlessOut c status (Refused fault)
 
 -- where a journal is wanted that would be too long, the answer says so, or memory ran out
 abbrev pub JournalTooLongIsExact : Command → ℕ → Type 0
@@ -106,8 +105,8 @@ JournalTooLongIsExact c status = (r : RunWords) (contents : Contents) (table : L
     → AreInputs (run r) (Some contents) table captures → IsLongJournal (decision_named r.scheduler) r.settings table captures size
     → AnswersUnlessOut c status (JournalTooLong size)
 
--- where a packets file is wanted that would be too long, and no journal that is wanted is too long, the answer says so, or
--- memory ran out
+-- where a packets file is wanted that would be too long, as that of a long job is not, and no journal that is wanted is too
+-- long, the answer says so, or memory ran out
 abbrev pub PacketsTooLongIsExact : Command → ℕ → Type 0
 PacketsTooLongIsExact c status = (r : RunWords) (contents : Contents) (table : List ℕ) (captures : List (List ℕ)) (size : ℕ)
     → IsReadable c (run r) contents → r.packets ≡ true → AreInputs (run r) (Some contents) table captures → JournalFits r table captures
@@ -132,9 +131,9 @@ pub record CheckIsExact (c : Command) (status : ℕ) : Type 0 where
 -- wanted is too long, all is written, or memory ran out.
 abbrev pub IsComplete : Command → ℕ → Type 0
 IsComplete c status = (job : JobWords) (contents : Contents) → RunsSwitch job → IsReadable c job contents → AreWritable c job
-    → ((r : ReadWords) (input : InputFile) → reads_of job ≡ Some r → IsInput r input → IsTooLong contents (input_name r input) → ⊥)
+    → ((r : ReadWords) (input : InputFile) → reads_of job ≡ Some r → IsInput r input → IsTooLongFor r input contents → ⊥)
     → ((table : List ℕ) (captures : List (List ℕ)) (fault : PlanFault) → AreInputs job (Some contents) table captures
-    → IsRefusal (speed_in job) table captures fault → ⊥)
+    → IsRefusal (terms_in job) table captures fault → ⊥)
     → ((r : RunWords) (table : List ℕ) (captures : List (List ℕ)) (size : ℕ) → job ≡ run r → r.journal ≡ true → AreInputs job (Some contents) table captures
     → IsLongJournal (decision_named r.scheduler) r.settings table captures size → ⊥)
     → ((r : RunWords) (table : List ℕ) (captures : List (List ℕ)) (size : ℕ) → job ≡ run r → r.packets ≡ true
@@ -144,10 +143,10 @@ IsComplete c status = (job : JobWords) (contents : Contents) → RunsSwitch job 
 -- What a `gen` job comes to, whatever the files hold: where the bytes that it makes are refused, the answer says so, or memory
 -- ran out; and where they are not, and no call on standard output was refused, the summary is given, or memory ran out.
 pub record GenIsExact (c : Command) (status : ℕ) : Type 0 where
-  pub refusal : (g : GenJob) (fault : PlanFault) → c.job ≡ Some (gen g) → IsRefusal g.settings.speed (made_table g.ports) (made_captures g) fault
+  pub refusal : (g : GenJob) (fault : PlanFault) → c.job ≡ Some (gen g) → IsRefusal (terms_of g.settings) (made_table g.ports) (made_captures g) fault
       → AnswersUnlessOut c status (Refused fault)
   pub complete : (g : GenJob) → c.job ≡ Some (gen g)
-      → ((fault : PlanFault) → IsRefusal g.settings.speed (made_table g.ports) (made_captures g) fault → ⊥)
+      → ((fault : PlanFault) → IsRefusal (terms_of g.settings) (made_table g.ports) (made_captures g) fault → ⊥)
       → (Rose (c.was ToOut) (c.now ToOut) → ⊥) → (status ≡ 0) ⊎ (status ≡ 5)
 
 -- the scheduler of a job; of `firm` it is the second
@@ -196,7 +195,8 @@ abbrev pub ServesAsMany : Scheduler → SwitchPlan → ℕ → Type 0
 ServesAsMany scheduler plan slots = (j : ℕ) → j < ports_of plan
     → ran (run_matches_under scheduler plan slots) j slots ≡ ideal plan.cards (run_matches_under scheduler plan slots) j slots
 
--- What is promised of the run under the scheduler of this name of a plan, that has so many slots.
+-- What is promised of the run under the scheduler of this name of a plan, that has so many slots. Its journal is promised of
+-- the plan of a burst, as each job's is that is not long.
 pub record RunPromises (name : SchedulerName) (plan : SwitchPlan) (slots : ℕ) : Type 0 where
   pub delivers : DeliversUnder (decision_named name) plan slots
   pub no_others : DeliversNoOthersUnder (decision_named name) plan slots
@@ -212,7 +212,7 @@ pub record RunPromises (name : SchedulerName) (plan : SwitchPlan) (slots : ℕ) 
   pub serves_as_many : ServesAsMany (decision_named name) plan slots
   pub ends_no_later : EndsNoLaterUnder (decision_named name) plan slots
   pub delays : ExtraIsDelaysUnder (decision_named name) plan slots
-  pub journals : JournalIsLawful (decision_named name) plan slots
+  pub journals : IsBurst plan → JournalIsLawful (decision_named name) plan slots
   pub queues : QueuesAddUpUnder (decision_named name) plan slots
   pub sized : IsSized (decision_named name) plan slots
   pub departures : HasDeparturesUnder (decision_named name) plan slots

@@ -2,7 +2,7 @@
 use Rattle.std.specs.Prelude.{◌≡◌, ◌<◌, ◌+◌, ℕ, Bool, true, is_some, List, take, length, Option, Some, None, Ok, Err, option_map, IfSome, slice_index_or}
 use Rattle.outside.specs.Contents.{Contents, append_out}
 use Rattle.outside.specs.Faults.{Place, ReadOf, ToOut, ToErr, Rose}
-use Rattle.outside.specs.WholeFiles.{IsTooLong, StopsAt}
+use Rattle.outside.specs.WholeFiles.{StopsAt}
 use Rattle.journal_command.specs.Checks.{MeansCheck}
 use Rattle.journal_command.specs.declared.ending.CheckEnding.{CheckEnding}
 use Rattle.switch_words.specs.Options.{command_in}
@@ -12,7 +12,7 @@ use Rattle.switch_plan.specs.declared.fault.PlanFault.{PlanFault}
 use Rattle.job_files.specs.Jobs.{ReadWords, reads_of, input_name, IsInput}
 use Rattle.job_files.specs.OutputFiles.{Texts, nameless, files_of, packets_place, put_files, put_texts, HoldsTexts}
 use Rattle.switch_run.specs.Switched.{IsJobOutcome, IsLongJournal, IsLongPackets, JournalFits}
-use Rattle.job_files.specs.Inputs.{EarlierFit, AreInputs}
+use Rattle.job_files.specs.Inputs.{EarlierFit, IsTooLongFor, AreInputs}
 use Rattle.job_files.specs.LineParts.{GivesLine}
 use Rattle.job_files.specs.RefusalLines.{memory_line}
 use Rattle.job_files.specs.ErrorLines.{line_of, usage_line}
@@ -51,7 +51,7 @@ pub record IsFirstTooLong (job : JobWords) (told : Option Contents) (input : Inp
   pub reads : reads_of job ≡ Some words
   pub known : IsInput words input
   pub earlier : IfSome told (EarlierFit words input)
-  pub longer : IfSome told (λ c. IsTooLong c (input_name words input))
+  pub longer : IfSome told (IsTooLongFor words input)
 
 -- The bytes of the table and the captures are refused.
 pub record IsRefused (job : JobWords) (told : Option Contents) (fault : PlanFault) : Type 0 where
@@ -70,7 +70,7 @@ pub record IsJournalTooLong (job : JobWords) (told : Option Contents) (size : �
   pub inputs : AreInputs job told table captures
   pub longer : IsLongJournal (decision_named words.scheduler) words.settings table captures size
 
--- The packets file of the run has more bytes than it may have. A journal that is wanted has not.
+-- The packets file of the run has more bytes than it may have, and the job is not long. A journal that is wanted has not.
 pub record IsPacketsTooLong (job : JobWords) (told : Option Contents) (size : ℕ) : Type 0 where
   pub words : RunWords
   pub is_run : job ≡ run words

@@ -1,5 +1,5 @@
 -- What is made of a job's inputs, and what stops that: the words of the calls inside.
-use Rattle.std.specs.Prelude.{◌≡◌, ◌≤◌, ℕ, true, Bool, List, length, map, Option, Some, Result, Ok, IfErr, IfOk, IfSome, OnOk, is_some}
+use Rattle.std.specs.Prelude.{◌≡◌, ◌≤◌, ℕ, true, false, Bool, List, length, map, Option, Some, Result, Ok, IfErr, IfOk, IfSome, OnOk, is_some}
 use Rattle.std.specs.Prelude.{slice_get, string_bytes}
 use Rattle.std.specs.List.{concat}
 use Rattle.rotating_pick.specs.declared.limits.TheConstants.{MAX_PORTS}
@@ -10,10 +10,9 @@ use Rattle.eslip_rounds.specs.Schedulers.{Scheduler}
 use Rattle.card_core.specs.declared.outcome.CardOut.{CardOut}
 use Rattle.slot_report.specs.declared.summary.OutLine.{OutLine}
 use Rattle.slot_report.specs.declared.summary.Summary.{Summary}
-use Rattle.switch_words.specs.declared.job.Speed.{Speed}
 use Rattle.switch_words.specs.declared.job.Settings.{Settings}
 use Rattle.switch_words.specs.Reading.{JobWords, run, RunWords}
-use Rattle.switch_plan.specs.Refusals.{IsRefusal}
+use Rattle.switch_plan.specs.Refusals.{Terms, terms_of, IsRefusal}
 use Rattle.switch_plan.specs.GoodPlans.{SwitchPlan}
 use Rattle.run_laws.specs.Ends.{IsLengthUnder}
 use Rattle.run_outcomes.specs.Outcomes.{summary_under}
@@ -44,20 +43,20 @@ pub record IsNotedRun (scheduler : Scheduler) (plan : SwitchPlan) (wanted : Want
   pub wanted_is : is.notes.wanted ≡ wanted
   pub noted : HasNoted scheduler plan is.notes slots
 
--- The same, with what it tells in place of its notes.
-pub record IsRanOf (scheduler : Scheduler) (plan : SwitchPlan) (wanted : Wanted) (is : EndedRun) : Type 0 where
+-- The same, with what it tells in place of its notes. A packets file is limited where the run is not long.
+pub record IsRanOf (scheduler : Scheduler) (plan : SwitchPlan) (wanted : Wanted) (long : Bool) (is : EndedRun) : Type 0 where
   pub slots : ℕ
   pub left : IsRunOutcome scheduler plan slots is.outcome
   pub few : length is.outcome.lines.items ≤ MAX_PORTS
   pub told : told_by is.told ≡ told_under scheduler wanted plan slots
   pub small : IfSome (told_by is.told).journal (λ bytes. length bytes ≤ MAX_JOURNAL_BYTES)
-  pub packets_small : IfSome (told_by is.told).packets (λ bytes. length bytes ≤ MAX_PACKETS_BYTES)
+  pub packets_small : long ≡ false → IfSome (told_by is.told).packets (λ bytes. length bytes ≤ MAX_PACKETS_BYTES)
 
 -- the same of the plan of a table and captures
 pub record IsRan (scheduler : Scheduler) (settings : Settings) (wanted : Wanted) (table : List ℕ) (files : List (List ℕ)) (is : EndedRun) : Type 0 where
   pub plan : SwitchPlan
   pub planned : IsPlanned settings table files plan
-  pub ran : IsRanOf scheduler plan wanted is
+  pub ran : IsRanOf scheduler plan wanted settings.long is
 
 -- the outputs of a board got these messages
 abbrev pub HaveMessages : (ℕ → List (List ℕ)) → List CardOut → Type 0
@@ -94,11 +93,11 @@ pub record AreMade (job : JobWords) (table : List ℕ) (captures : List (List �
   pub files_are : written.files ≡ files_of job texts
   pub summary_is : written.summary ≡ texts.summary
 
--- why no plan of a table and captures is made, at this pace
-abbrev pub StopsPlan : Speed → List ℕ → List (List ℕ) → Ending → Type 0
-StopsPlan speed table captures (Refused fault) = IsRefusal speed table captures fault
-StopsPlan speed table captures OutOfMemory = Unit {0}
-StopsPlan speed table captures _ = ⊥
+-- why no plan of a table and captures is made, on these terms
+abbrev pub StopsPlan : Terms → List ℕ → List (List ℕ) → Ending → Type 0
+StopsPlan terms table captures (Refused fault) = IsRefusal terms table captures fault
+StopsPlan terms table captures OutOfMemory = Unit {0}
+StopsPlan terms table captures _ = ⊥
 
 -- how a job ends whose texts are not made
 abbrev pub ending_of : NotesFault → Ending
@@ -106,14 +105,14 @@ ending_of (fault.JournalTooLong size) = JournalTooLong size
 ending_of (fault.PacketsTooLong size) = PacketsTooLong size
 ending_of fault.OutOfMemory = OutOfMemory
 
--- why the texts of the plan's run are not made
-abbrev pub StopsRun : Scheduler → SwitchPlan → Wanted → Ending → Type 0
-StopsRun scheduler plan wanted (JournalTooLong size) =
-    (slots : ℕ) × IsLengthUnder scheduler plan slots × StopsTold scheduler wanted plan slots (fault.JournalTooLong size)
-StopsRun scheduler plan wanted (PacketsTooLong size) =
-    (slots : ℕ) × IsLengthUnder scheduler plan slots × StopsTold scheduler wanted plan slots (fault.PacketsTooLong size)
-StopsRun scheduler plan wanted OutOfMemory = Unit {0}
-StopsRun scheduler plan wanted _ = ⊥
+-- why the texts of the plan's run, which is long or not, are not made
+abbrev pub StopsRun : Scheduler → SwitchPlan → Wanted → Bool → Ending → Type 0
+StopsRun scheduler plan wanted long (JournalTooLong size) =
+    (slots : ℕ) × IsLengthUnder scheduler plan slots × StopsTold scheduler wanted long plan slots (fault.JournalTooLong size)
+StopsRun scheduler plan wanted long (PacketsTooLong size) =
+    (slots : ℕ) × IsLengthUnder scheduler plan slots × StopsTold scheduler wanted long plan slots (fault.PacketsTooLong size)
+StopsRun scheduler plan wanted long OutOfMemory = Unit {0}
+StopsRun scheduler plan wanted long _ = ⊥
 
 -- Why the texts of a run of a table and captures are not made: its journal is wanted and too long, or else its packets file
 -- is, or there is no plan.
@@ -123,7 +122,7 @@ StopsTexts scheduler settings wanted table captures (JournalTooLong size) =
 StopsTexts scheduler settings wanted table captures (PacketsTooLong size) =
     (wanted.packets ≡ true) × IsLongPackets scheduler settings table captures size
     × ((other : ℕ) → wanted.journal ≡ true → IsLongJournal scheduler settings table captures other → ⊥)
-StopsTexts scheduler settings wanted table captures ending = StopsPlan settings.speed table captures ending
+StopsTexts scheduler settings wanted table captures ending = StopsPlan (terms_of settings) table captures ending
 
 -- these are the numbers of the plan's run under the scheduler, to its end
 pub record AreNumbers (scheduler : Scheduler) (plan : SwitchPlan) (summary : Summary) : Type 0 where

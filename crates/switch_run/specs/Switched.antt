@@ -12,8 +12,8 @@ use Rattle.switch_words.specs.declared.job.Settings.{Settings}
 use Rattle.switch_words.specs.Reading.{JobWords, run, gen, check, firm, RunWords}
 use Rattle.switch_plan.specs.declared.fault.PlanFault.{PlanFault}
 use Rattle.switch_plan.specs.Traffic.{CaptureFile}
-use Rattle.switch_plan.specs.Refusals.{AreRead, refusal_of, IsRefusal}
-use Rattle.switch_plan.specs.GoodPlans.{SwitchPlan, IsGood, IsBurst, IsPlanOf}
+use Rattle.switch_plan.specs.Refusals.{AreRead, terms_of, refusal_of, IsRefusal}
+use Rattle.switch_plan.specs.GoodPlans.{SwitchPlan, IsGood, IsBurst, IsCountable, IsPlanOf}
 use Rattle.eslip_rounds.specs.Schedulers.{Scheduler}
 use Rattle.named_schedulers.specs.Named.{decision_named}
 use Rattle.run_laws.specs.Runs.{ports_of, journal_under}
@@ -27,7 +27,7 @@ use Rattle.run_notes.specs.declared.wanted.Wanted.{Wanted}
 use Rattle.run_notes.specs.Told.{told_under}
 use Rattle.scheduler_runs.specs.FirmRuns.{IsFirmRun, HasShortWaits}
 use Rattle.job_files.specs.OutputFiles.{Texts}
-use Rattle.job_files.specs.Jobs.{speed_in}
+use Rattle.job_files.specs.Jobs.{terms_in}
 
 -- what the run of a `run` job is to tell beside its captures, the report's numbers and the summary
 abbrev pub wanted_by : RunWords → Wanted
@@ -67,14 +67,15 @@ texts_under scheduler wanted plan slots = record {
 }
 
 -- The plan of a job: its table and captures are those that the bytes are, none of the limits refuses them, and the plan
--- is theirs.
+-- is theirs. Its run can be counted; it is a burst where the job is not long.
 pub record IsPlanned (settings : Settings) (table : List ℕ) (files : List (List ℕ)) (plan : SwitchPlan) : Type 0 where
   pub lines : List RouteLine
   pub captures : List CaptureFile
   pub read : AreRead table files lines captures
-  pub allowed : refusal_of settings.speed lines captures ≡ None
+  pub allowed : refusal_of (terms_of settings) lines captures ≡ None
   pub good : IsGood plan
-  pub burst : IsBurst plan
+  pub countable : IsCountable plan
+  pub burst : settings.long ≡ false → IsBurst plan
   pub planned : IsPlanOf settings files lines captures plan
 
 -- The run of a job under a scheduler: its plan, and how many slots the plan's run has.
@@ -83,7 +84,7 @@ pub record IsRunOf (scheduler : Scheduler) (settings : Settings) (table : List �
   pub ends : IsLengthUnder scheduler plan slots
 
 -- The switch theorem for one job: the texts are those of the run of its table and captures under the scheduler. A journal
--- has at most 134,217,728 bytes, and so has a packets file.
+-- has at most 134,217,728 bytes, and so has a packets file but of a long job.
 pub record IsSwitched (scheduler : Scheduler) (settings : Settings) (wanted : Wanted) (table : List ℕ) (files : List (List ℕ)) (texts : Texts)
     : Type 0 where
   pub plan : SwitchPlan
@@ -91,7 +92,7 @@ pub record IsSwitched (scheduler : Scheduler) (settings : Settings) (wanted : Wa
   pub run : IsRunOf scheduler settings table files plan slots
   pub are : texts ≡ texts_under scheduler wanted plan slots
   pub small : IfSome texts.journal (λ bytes. length bytes ≤ MAX_JOURNAL_BYTES)
-  pub packets_small : IfSome texts.packets (λ bytes. length bytes ≤ MAX_PACKETS_BYTES)
+  pub packets_small : settings.long ≡ false → IfSome texts.packets (λ bytes. length bytes ≤ MAX_PACKETS_BYTES)
 
 -- the texts of a run under the second scheduler: its summary alone
 abbrev pub firm_texts : Summary → Texts
@@ -118,7 +119,7 @@ AreTexts (firm f) table files texts = IsSwitchedByFirm f.settings table files te
 -- what a job comes to: texts, or the first cause for which it is refused
 abbrev pub IsJobOutcome : JobWords → List ℕ → List (List ℕ) → Result Texts PlanFault → Type 0
 IsJobOutcome job table files (Ok texts) = AreTexts job table files texts
-IsJobOutcome job table files (Err fault) = IsRefusal (speed_in job) table files fault
+IsJobOutcome job table files (Err fault) = IsRefusal (terms_in job) table files fault
 
 -- The journal of the job's run would have this many bytes, which are more than a journal file may have.
 pub record IsLongJournal (scheduler : Scheduler) (settings : Settings) (table : List ℕ) (files : List (List ℕ)) (size : ℕ) : Type 0 where
@@ -132,10 +133,12 @@ pub record IsLongJournal (scheduler : Scheduler) (settings : Settings) (table : 
 abbrev pub JournalFits : RunWords → List ℕ → List (List ℕ) → Type 0
 JournalFits r table files = (size : ℕ) → r.journal ≡ true → IsLongJournal (decision_named r.scheduler) r.settings table files size → ⊥
 
--- The packets file of the job's run would have this many bytes, which are more than it may have.
+-- The packets file of the job's run would have this many bytes, which are more than it may have. Of a long job there is
+-- no such limit.
 pub record IsLongPackets (scheduler : Scheduler) (settings : Settings) (table : List ℕ) (files : List (List ℕ)) (size : ℕ) : Type 0 where
   pub plan : SwitchPlan
   pub slots : ℕ
   pub run : IsRunOf scheduler settings table files plan slots
+  pub short : settings.long ≡ false
   pub size_is : size ≡ length (packets_text_under scheduler plan slots)
   pub longer : MAX_PACKETS_BYTES < size

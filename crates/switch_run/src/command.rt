@@ -133,8 +133,9 @@ fn end_of<R: Threads + Sync, F: Files, G: Gate + Sync>(
 /// job read their table and then each capture whole. Of these, or of the input that a `gen` job makes, the switch is
 /// planned and run to its end: for `firm` under the second scheduler, for `run` and `gen` under the one that
 /// `--scheduler` names, `islip`, `firm` or `rrm`, `islip` where it names none. The run under `islip` is made at the
-/// board, by the line cards; with `--alone`, and under the other schedulers, it is made on one thread. What is written
-/// is the same either way. A `run` job then writes the capture of output `j` to `PREFIX.j.pcap`, for each `j` in order,
+/// board, by the line cards; with `--alone` or `--long`, and under the other schedulers, it is made on one thread. What
+/// is written is the same either way. A job with `--long` has the limits of long jobs, `long_limits` of `switch_plan`,
+/// and makes of what both can run what it makes without. A `run` job then writes the capture of output `j` to `PREFIX.j.pcap`, for each `j` in order,
 /// the report to `PREFIX.report` and, each where it is wanted, the journal to `PREFIX.journal` and after it the packets
 /// file to `PREFIX.packets.csv`. Last, the summary is given to standard output. A `check` job reads a journal file and
 /// tells whether it is lawful: whether its matches are those of the scheduler that `--scheduler` names, `islip` where
@@ -144,9 +145,9 @@ fn end_of<R: Threads + Sync, F: Files, G: Gate + Sync>(
 /// - 2: the words are not those of a job. Where there are none, or the first names no command, it comes even where
 ///   memory has run out.
 /// - 3: a read of the table, of a capture or of the journal file was refused.
-/// - 4: the table or a capture has more than 16,777,216 bytes, or what they hold is refused; or a journal that is to be
-///   written or checked has more than 134,217,728 bytes, or a packets file that is to be written has; or what is to be
-///   checked is no journal file.
+/// - 4: the table or a capture has more than 16,777,216 bytes, or a capture of a long job more than 4,294,967,295, or
+///   what they hold is refused; or a journal that is to be written or checked has more than 134,217,728 bytes, or a
+///   packets file that is to be written has, but in a long job; or what is to be checked is no journal file.
 /// - 5: memory ran out. No file was begun, and nothing was given to standard output.
 /// - 6: a call on a file that is written or on standard output was refused. What was to be written before is whole,
 ///   and what was to be written after is as before.

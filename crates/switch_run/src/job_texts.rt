@@ -53,6 +53,7 @@ pub(crate) fn texts_of_run<R: Threads + Sync, F: Files, G: Gate + Sync>(
     let way = RunWay {
         scheduler: job.scheduler,
         alone: job.alone,
+        long: job.settings.long,
         wanted: wanted_by(job),
     };
     let ran = plan_and_run(rt, alloc, &job.settings, way, inputs, gate)?;

@@ -1,26 +1,27 @@
 //! Laws of jobs: each is the contract of a call that does nothing.
 
-ghost use Rattle.std.specs.Prelude.{◌≡◌, ◌↔◌, ℕ, Bool, List, Result};
+ghost use Rattle.std.specs.Prelude.{◌≡◌, ◌↔◌, ℕ, Bool, List, Option, Result, Ok};
+ghost use Rattle.outside.specs.Contents.{Contents};
 ghost use Rattle.switch_words.specs.declared.limits.TheConstants.{MAX_WORKERS};
 ghost use Rattle.switch_words.specs.declared.job.Settings.{Settings};
-ghost use Rattle.switch_words.specs.declared.job.Speed.{Speed};
 ghost use Rattle.switch_words.specs.Limits.{IsUpTo};
 ghost use Rattle.switch_words.specs.Reading.{JobWords};
 ghost use Rattle.switch_plan.specs.declared.fault.PlanFault.{PlanFault};
-ghost use Rattle.switch_plan.specs.Refusals.{IsRefusal};
+ghost use Rattle.switch_plan.specs.Refusals.{IsRefusal, Terms};
 ghost use Rattle.switch_plan.specs.GoodPlans.{SwitchPlan};
 ghost use Rattle.scheduler_names.specs.declared.names.SchedulerName.{SchedulerName};
 ghost use Rattle.eslip_rounds.specs.Schedulers.{Scheduler};
 ghost use Rattle.named_schedulers.specs.Named.{decision_named};
-ghost use Rattle.job_files.specs.Jobs.{speed_in, settings_with, with_alone, with_workers};
+ghost use Rattle.job_files.specs.Inputs.{AreInputs};
+ghost use Rattle.job_files.specs.Jobs.{terms_in, settings_with, with_alone, with_long, with_workers};
 ghost use Rattle.job_files.specs.OutputFiles.{Texts};
 ghost use Rattle.switch_run.specs.Switched.{AreTexts, IsJobOutcome, IsLongJournal, IsLongPackets, IsPlanned, IsRunOf};
 
 /// A job has at most one outcome: no two causes for which it is refused, no cause beside texts, and one list of texts.
 pub fn one_outcome()
-    ensures refusal { (speed : Speed) (table : List ℕ) (files : List (List ℕ)) (a b : PlanFault) → IsRefusal speed table files a
-        → IsRefusal speed table files b → a ≡ b }
-    ensures either { (job : JobWords) (table : List ℕ) (files : List (List ℕ)) (fault : PlanFault) (texts : Texts) → IsRefusal (speed_in job) table files fault
+    ensures refusal { (terms : Terms) (table : List ℕ) (files : List (List ℕ)) (a b : PlanFault) → IsRefusal terms table files a
+        → IsRefusal terms table files b → a ≡ b }
+    ensures either { (job : JobWords) (table : List ℕ) (files : List (List ℕ)) (fault : PlanFault) (texts : Texts) → IsRefusal (terms_in job) table files fault
         → AreTexts job table files texts → ⊥ }
     ensures texts { (job : JobWords) (table : List ℕ) (files : List (List ℕ)) (a b : Texts) → AreTexts job table files a → AreTexts job table files b → a ≡ b }
 {}
@@ -50,4 +51,13 @@ pub fn workers_make_no_difference()
 pub fn one_thread_makes_no_difference()
     ensures { (job : JobWords) (alone : Bool) (table : List ℕ) (files : List (List ℕ)) (outcome : Result Texts PlanFault)
         → IsJobOutcome job table files outcome ↔ IsJobOutcome (with_alone alone job) table files outcome }
+{}
+
+/// Whether a job is run long makes no difference where it can be run otherwise too: what it reads, the same job of the same
+/// depth reads when it is run long, and the texts that it makes of that are the same.
+pub fn long_makes_no_difference()
+    ensures inputs { (job : JobWords) (told : Option Contents) (table : List ℕ) (captures : List (List ℕ)) → AreInputs job told table captures
+        → AreInputs (with_long job) told table captures }
+    ensures texts { (job : JobWords) (table : List ℕ) (files : List (List ℕ)) (texts : Texts) → IsJobOutcome job table files (Ok texts)
+        → IsJobOutcome (with_long job) table files (Ok texts) }
 {}

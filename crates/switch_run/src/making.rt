@@ -1,16 +1,16 @@
-ghost use Rattle.std.specs.Prelude.{◌≡◌, IfErr, IfOk};
+ghost use Rattle.std.specs.Prelude.{◌≡◌, true, false, IfErr, IfOk};
 ghost use Rattle.eslip_rounds.specs.Decisions.{decision_of};
 ghost use Rattle.named_schedulers.specs.Named.{decision_named};
 ghost use Rattle.switch_words.specs.Limits.{AreWithinLimits};
-ghost use Rattle.switch_plan.specs.GoodPlans.{IsGood, IsBurst, switch_plan_of};
+ghost use Rattle.switch_plan.specs.GoodPlans.{IsGood, IsBurst, IsCountable, switch_plan_of};
 ghost use Rattle.switch_plan.specs.ReadingSteps.{bytes_of_files};
+ghost use Rattle.switch_plan.specs.Refusals.{terms_of};
 ghost use Rattle.job_files.specs.FileSteps.{AreOfSize};
 ghost use Rattle.switch_run.specs.MakingSteps.{AreNumbers, AreNumbersOf, IsNotedRun, IsRan, IsRanOf, StopsPlan, StopsRun, StopsTexts, ending_of};
 ghost use Rattle.switch_run.specs.Switched.{IsPlanned};
 
 use crate::captures::{out_lines, output_captures};
 use card_worker::Gate;
-use descriptor_runs::laws::bursts_are_countable;
 use descriptor_runs::{RunOutcome, run_by_descriptors};
 use job_files::{Ending, Inputs};
 use rotating_pick::OutOfMemory;
@@ -22,6 +22,7 @@ use slot_report::Summary;
 use std::alloc::Global;
 use std::thread::Threads;
 use switch_jobs::run_job;
+use switch_plan::laws::plans_are_countable;
 use switch_plan::{Plan, PlanFault, jobs};
 use switch_words::Settings;
 
@@ -32,6 +33,8 @@ pub(crate) struct RunWay {
     pub(crate) scheduler: SchedulerName,
     /// Whether the run is made on one thread under the board's scheduler too.
     pub(crate) alone: bool,
+    /// Whether the run is a long one, which is made on one thread and whose packets file has no limit.
+    pub(crate) long: bool,
     /// What the run is to tell beside its captures and its numbers.
     pub(crate) wanted: Wanted,
 }
@@ -62,8 +65,9 @@ fn planned<R: Threads + Sync>(
     requires limits { AreWithinLimits settings.now }
     requires size { AreOfSize inputs.table.items (bytes_of_files inputs.captures) }
     ensures planned { IfOk result (λ plan. IsPlanned settings.now inputs.table.items (bytes_of_files inputs.captures) (switch_plan_of plan)) }
-    ensures stops { IfErr result (StopsPlan settings.now.speed inputs.table.items (bytes_of_files inputs.captures)) }
+    ensures stops { IfErr result (StopsPlan (terms_of settings.now) inputs.table.items (bytes_of_files inputs.captures)) }
 {
+    plans_are_countable();
     let Inputs { table, captures } = inputs;
     match jobs::plan(rt, alloc, settings, table, captures) {
         Ok(plan) => Ok(plan),
@@ -81,6 +85,7 @@ fn run_at_board<R: Threads + Sync, G: Gate + Sync>(
     gate: &G,
 ) -> Result<NotedRun, OutOfMemory>
     requires good { IsGood (switch_plan_of plan) }
+    requires countable { IsCountable (switch_plan_of plan) }
     requires burst { IsBurst (switch_plan_of plan) }
     ensures { IfOk result (IsNotedRun decision_of (switch_plan_of plan) wanted) }
 {
@@ -111,37 +116,38 @@ fn run_on_thread(
     wanted: Wanted,
 ) -> Result<NotedRun, OutOfMemory>
     requires good { IsGood (switch_plan_of plan) }
-    requires burst { IsBurst (switch_plan_of plan) }
+    requires countable { IsCountable (switch_plan_of plan) }
+    requires burst { wanted.journal ≡ true → IsBurst (switch_plan_of plan) }
     ensures { IfOk result (IsNotedRun (decision_named scheduler) (switch_plan_of plan) wanted) }
 {
-    bursts_are_countable();
     let mut notes = RunNotes::make(alloc, wanted, &plan)?;
     let outcome = run_by_descriptors(alloc, plan, scheduler, &mut notes)?;
     Ok(NotedRun { outcome, notes })
 }
 
-// Runs the plan to its end under the scheduler, at a board where it is the board's and else on this thread: the numbers of the
-// run. Nothing is noted, and the board's outputs make no captures.
+// Runs the plan to its end under the scheduler, at a board where it is the board's and the run is not long, and else on this
+// thread: the numbers of the run. Nothing is noted, and the board's outputs make no captures.
 fn summary_of_run<R: Threads + Sync, G: Gate + Sync>(
     rt: &R,
     alloc: Global,
     plan: Plan,
     scheduler: SchedulerName,
+    long: bool,
     gate: &G,
 ) -> Result<Summary, OutOfMemory>
     requires good { IsGood (switch_plan_of plan) }
-    requires burst { IsBurst (switch_plan_of plan) }
+    requires countable { IsCountable (switch_plan_of plan) }
+    requires burst { long ≡ false → IsBurst (switch_plan_of plan) }
     ensures { IfOk result (AreNumbers (decision_named scheduler) (switch_plan_of plan)) }
 {
-    bursts_are_countable();
     match scheduler {
-        SchedulerName::Islip => Ok(run_job(rt, alloc, plan, gate)?.summary),
+        SchedulerName::Islip if !long => Ok(run_job(rt, alloc, plan, gate)?.summary),
         scheduler => Ok(run_by_descriptors(alloc, plan, scheduler, &mut NoSink)?.summary),
     }
 }
 
-// Runs the plan to its end: at a board where its scheduler is the board's and it is not to be run alone, else on this
-// thread.
+// Runs the plan to its end: at a board where its scheduler is the board's and the run is neither long nor to be made alone,
+// else on this thread.
 fn run_noted<R: Threads + Sync, G: Gate + Sync>(
     rt: &R,
     alloc: Global,
@@ -150,11 +156,15 @@ fn run_noted<R: Threads + Sync, G: Gate + Sync>(
     gate: &G,
 ) -> Result<NotedRun, OutOfMemory>
     requires good { IsGood (switch_plan_of plan) }
-    requires burst { IsBurst (switch_plan_of plan) }
+    requires countable { IsCountable (switch_plan_of plan) }
+    requires burst { way.long ≡ false → IsBurst (switch_plan_of plan) }
+    requires journal { way.long ≡ true → way.wanted.journal ≡ false }
     ensures { IfOk result (IsNotedRun (decision_named way.scheduler) (switch_plan_of plan) way.wanted) }
 {
     match way.scheduler {
-        SchedulerName::Islip if !way.alone => run_at_board(rt, alloc, plan, way.wanted, gate),
+        SchedulerName::Islip if !way.alone && !way.long => {
+            run_at_board(rt, alloc, plan, way.wanted, gate)
+        }
         scheduler => run_on_thread(alloc, plan, scheduler, way.wanted),
     }
 }
@@ -179,18 +189,20 @@ fn run_plan<R: Threads + Sync, G: Gate + Sync>(
     gate: &G,
 ) -> Result<EndedRun, Ending>
     requires good { IsGood (switch_plan_of plan) }
-    requires burst { IsBurst (switch_plan_of plan) }
-    ensures ran { IfOk result (IsRanOf (decision_named way.scheduler) (switch_plan_of plan) way.wanted) }
-    ensures stops { IfErr result (StopsRun (decision_named way.scheduler) (switch_plan_of plan) way.wanted) }
+    requires countable { IsCountable (switch_plan_of plan) }
+    requires burst { way.long ≡ false → IsBurst (switch_plan_of plan) }
+    requires journal { way.long ≡ true → way.wanted.journal ≡ false }
+    ensures ran { IfOk result (IsRanOf (decision_named way.scheduler) (switch_plan_of plan) way.wanted way.long) }
+    ensures stops { IfErr result (StopsRun (decision_named way.scheduler) (switch_plan_of plan) way.wanted way.long) }
 {
     let NotedRun { outcome, notes } = run_noted(rt, alloc, plan, way, gate)?;
-    match notes.texts(alloc) {
+    match notes.texts(alloc, way.long) {
         Ok(told) => Ok(EndedRun { outcome, told }),
         Err(fault) => Err(ending_of(fault)),
     }
 }
 
-/// Plans and runs the job of the inputs, and makes the texts that are wanted of its run.
+/// Plans and runs the job of the inputs, and makes the texts that are wanted of its run, among which a long run has no journal.
 pub(crate) fn plan_and_run<R: Threads + Sync, G: Gate + Sync>(
     rt: &R,
     alloc: Global,
@@ -201,6 +213,8 @@ pub(crate) fn plan_and_run<R: Threads + Sync, G: Gate + Sync>(
 ) -> Result<EndedRun, Ending>
     requires limits { AreWithinLimits settings.now }
     requires size { AreOfSize inputs.table.items (bytes_of_files inputs.captures) }
+    requires long { way.long ≡ settings.now.long }
+    requires journal { way.long ≡ true → way.wanted.journal ≡ false }
     ensures ran { IfOk result (IsRan (decision_named way.scheduler) settings.now way.wanted inputs.table.items (bytes_of_files inputs.captures)) }
     ensures stops { IfErr result (StopsTexts (decision_named way.scheduler) settings.now way.wanted inputs.table.items (bytes_of_files inputs.captures)) }
 {
@@ -220,8 +234,8 @@ pub(crate) fn summary_of_job<R: Threads + Sync, G: Gate + Sync>(
     requires limits { AreWithinLimits settings.now }
     requires size { AreOfSize inputs.table.items (bytes_of_files inputs.captures) }
     ensures ran { IfOk result (AreNumbersOf (decision_named scheduler) settings.now inputs.table.items (bytes_of_files inputs.captures)) }
-    ensures stops { IfErr result (StopsPlan settings.now.speed inputs.table.items (bytes_of_files inputs.captures)) }
+    ensures stops { IfErr result (StopsPlan (terms_of settings.now) inputs.table.items (bytes_of_files inputs.captures)) }
 {
     let plan = planned(rt, alloc, settings, inputs)?;
-    Ok(summary_of_run(rt, alloc, plan, scheduler, gate)?)
+    Ok(summary_of_run(rt, alloc, plan, scheduler, settings.long, gate)?)
 }

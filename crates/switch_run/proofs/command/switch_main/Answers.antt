@@ -3,7 +3,7 @@ use Rattle.std.specs.Prelude.{Ok}
 use Rattle.named_schedulers.specs.Named.{decision_named}
 use Rattle.switch_run.specs.Causes.{Answers, scheduler_in}
 use Rattle.switch_run.specs.Endings.{Command, command_of}
-use Rattle.switch_run.proofs.Answering.{none_of, run_ends, run_good, run_burst, run_plan, too_long_exact, usage_exact}
+use Rattle.switch_run.proofs.Answering.{none_of, run_ends, run_good, run_plan, too_long_exact, usage_exact}
 use Rattle.switch_run.proofs.Refusing.{journal_exact, packets_exact, refusal_exact}
 use Rattle.switch_run.proofs.Completing.{complete}
 use Rattle.switch_run.proofs.Bounds.{serves_named, waits_named}
@@ -42,7 +42,6 @@ returns g c =
           let scheduler = decision_named name in
           let fair = c.each_is_a_scheduler.ensures name in
           let good = run_good is.job _ _ plan slots is.run in
-          let burst = run_burst is.job _ _ plan slots is.run in
           let ends = run_ends is.job _ _ plan slots is.run in
           let made = run_plan is.job _ _ plan slots is.run in
           let lawful = c.journals_of_runs_are_lawful.ensures in
@@ -62,7 +61,7 @@ returns g c =
             serves_as_many = λ j. c.whole_runs_serve_the_same.ensures.count scheduler plan slots j fair good ends;
             ends_no_later = c.lines_tell_the_delays.ensures.ends scheduler plan slots fair good ends;
             delays = c.lines_tell_the_delays.ensures.delays scheduler plan slots fair good ends;
-            journals = lawful.answer scheduler plan slots fair good burst ends ∙ ap Ok (lawful.numbers scheduler plan slots);
+            journals = λ burst. lawful.answer scheduler plan slots fair good burst ends ∙ ap Ok (lawful.numbers scheduler plan slots);
             queues = c.lines_add_up.ensures scheduler plan slots good (c.arrivals_come_first.ensures scheduler plan slots ends);
             sized = c.runs_are_sized.ensures scheduler plan slots good ends;
             departures = c.runs_have_departures.ensures scheduler plan slots fair good ends;

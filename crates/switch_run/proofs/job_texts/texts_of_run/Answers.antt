@@ -18,6 +18,9 @@ plan_and_run-requires-clause-size g c κs alive =
       most = omega (arith, length-map names string_bytes, c.requires.inputs.most);
     })
 
+pub plan_and_run-requires-clause-journal : goal.plan_and_run-requires-clause-journal
+plan_and_run-requires-clause-journal g c κs alive long = rw c.wanted_by.ensures (c.requires.journal long)
+
 pub returns-in_err-inputs-clause-stops : goal.returns-in_err-inputs-clause-stops
 returns-in_err-inputs-clause-stops g c =
     let contents = g.F.Files.told in

@@ -1,10 +1,6 @@
 use Rattle.std.proofs.Common.{◌∙◌}
 use Rattle.named_schedulers.specs.Named.{decision_named}
-use Rattle.switch_plan.specs.GoodPlans.{switch_plan_of}
 use Rattle.switch_run.proofs.making.run_on_thread.Goals as goal
-
-pub run_by_descriptors-requires-clause-countable : goal.run_by_descriptors-requires-clause-countable
-run_by_descriptors-requires-clause-countable c = c.bursts_are_countable.ensures (switch_plan_of c.args.plan) c.requires.good c.requires.burst
 
 pub run_by_descriptors-requires-clause-noted : goal.run_by_descriptors-requires-clause-noted
 run_by_descriptors-requires-clause-noted c = c.in_ok-notes.ensures.noted (decision_named c.args.scheduler)

@@ -28,7 +28,7 @@ returns-in-Err-clause-stops g c =
     let scheduler = decision_named c.args.way.scheduler in
     let plan = switch_plan_of c.args.plan in
     let is = c.in_ok-outcome.ensures in
-    let stops = subst (λ (w : Wanted). StopsTold scheduler w plan is.slots c.in-Err.fault) is.wanted_is
+    let stops = subst (λ (w : Wanted). StopsTold scheduler w c.args.way.long plan is.slots c.in-Err.fault) is.wanted_is
     (c.in-Err.ensures.stops scheduler plan is.slots is.left.ends is.noted) in
-    subst (λ (ending : Ending). StopsRun scheduler plan c.args.way.wanted ending) (sym c.ending_of.ensures)
-    (stops_told scheduler c.args.way.wanted plan is.slots c.in-Err.fault is.left.ends stops)
+    subst (λ (ending : Ending). StopsRun scheduler plan c.args.way.wanted c.args.way.long ending) (sym c.ending_of.ensures)
+    (stops_told scheduler c.args.way.wanted c.args.way.long plan is.slots c.in-Err.fault is.left.ends stops)

@@ -6,9 +6,6 @@ use Rattle.switch_run.specs.MakingSteps.{AreNumbers}
 use Rattle.switch_run.proofs.BoardRuns.{within}
 use Rattle.switch_run.proofs.making.summary_of_run.Goals as goal
 
-pub run_by_descriptors-requires-clause-countable : goal.run_by_descriptors-requires-clause-countable
-run_by_descriptors-requires-clause-countable g c = c.bursts_are_countable.ensures (switch_plan_of c.args.plan) c.requires.good c.requires.burst
-
 pub returns-in_ok-run_job-in-Islip : goal.returns-in_ok-run_job-in-Islip
 returns-in_ok-run_job-in-Islip g c =
     let plan = switch_plan_of c.args.plan in
