@@ -31,7 +31,7 @@ pub(crate) fn planned<R: Threads + Sync>(
     if !few || table.len() > MAX_FILE_BYTES {
         return None;
     }
-    if !captures.iter().all(|file| file.len() <= MAX_FILE_BYTES) {
+    if !captures.iter().all(|file| file.len() < 1 << 32) {
         return None;
     }
     let settings = Settings {
@@ -39,6 +39,7 @@ pub(crate) fn planned<R: Threads + Sync>(
         depth: DEPTH,
         workers,
         speed: Speed::Untimed,
+        long: false,
     };
     Some(jobs::plan(rt, alloc, &settings, table, captures))
 }

@@ -2,6 +2,7 @@ use job_files::{Ending, print_line};
 use outside::MemFiles;
 use scheduler_names::SchedulerName;
 use std::test;
+use switch_plan::PlanFault;
 use switch_words::{Job, RunJob, Settings, Speed};
 
 const SETTINGS: Settings = Settings {
@@ -9,11 +10,18 @@ const SETTINGS: Settings = Settings {
     depth: 131_072,
     workers: 4,
     speed: Speed::Untimed,
+    long: false,
 };
 
 // The endings of large jobs and of those for which there is no memory. Seven bytes a call are printed.
-const ROWS: [(Ending, &str); 3] = [
+const ROWS: [(Ending, &str); 4] = [
     (Ending::OutOfMemory, "out of memory\n"),
+    (
+        Ending::Refused(PlanFault::TooManyPackets {
+            packets: 1_073_741_825,
+        }),
+        "too many packets: 1073741825\n",
+    ),
     (
         Ending::JournalTooLong(134_217_729),
         "journal too long: 134217729\n",

@@ -14,6 +14,7 @@ const SETTINGS: Settings = Settings {
     depth: 131_072,
     workers: 4,
     speed: Speed::Untimed,
+    long: false,
 };
 
 /// What the plan says of the table, with captures that have no packets: `ok`, or the fault with its numbers.
@@ -68,7 +69,7 @@ fn plan_of<R: Threads + Sync>(
     if captures.is_empty() || captures.len() > MAX_PORTS as usize || text.len() > MAX_FILE_BYTES {
         return Err(NoAnswer);
     }
-    if !captures.iter().all(|file| file.len() <= MAX_FILE_BYTES) {
+    if !captures.iter().all(|file| file.len() < 4_294_967_296) {
         return Err(NoAnswer);
     }
     Ok(jobs::plan(rt, alloc, &SETTINGS, text, captures))

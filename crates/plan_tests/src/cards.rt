@@ -27,7 +27,7 @@ pub(crate) struct Job<'a> {
     pub(crate) bytes: usize,
     pub(crate) flows: usize,
     pub(crate) size: u32,
-    pub(crate) body_room: u32,
+    pub(crate) body_room: u64,
     pub(crate) packet_room: u32,
 }
 

@@ -103,7 +103,7 @@ const SLOTS: [Slot; 8] = [
 #[test]
 fn cells_wait_as_the_card_says(rt: HostRuntime) -> Result<(), Fail> {
     let plan = plan_of(rt.alloc(), &JOB)?;
-    assert!(rt; plan.is_good() && plan.n == 2);
+    assert!(rt; plan.is_good() && plan.n == 2 && plan.packets.len() == 7);
     let mut queues = QueueLengths::make(rt.alloc(), &plan)?;
     let mut card = Card::make(rt.alloc(), plan)?;
     for want in SLOTS {

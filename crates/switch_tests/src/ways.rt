@@ -1,4 +1,4 @@
-ghost use Rattle.std.specs.Prelude.{◌≡◌, ◌≤◌, vec_len, None, All, IsTrue};
+ghost use Rattle.std.specs.Prelude.{◌≡◌, ◌<◌, ◌^◌, vec_len, None, All, IsTrue, false};
 
 use crate::captures::{ETHERNET, add_record};
 use card_worker::Gate;
@@ -63,11 +63,9 @@ fn captures(alloc: Global) -> Result<Vec<Vec<u8>>, AllocError> {
 }
 
 fn are_short(captures: &[Vec<u8>]) -> bool
-    ensures { IsTrue result → All (λ capture. vec_len capture ≤ MAX_FILE_BYTES) captures.now }
+    ensures { IsTrue result → All (λ capture. vec_len capture < 2 ^ 32) captures.now }
 {
-    captures
-        .iter()
-        .all(|capture| capture.len() <= MAX_FILE_BYTES)
+    captures.iter().all(|capture| capture.len() < 1 << 32)
 }
 
 // What is given to the workers.
@@ -80,13 +78,14 @@ enum Traffic {
 }
 
 fn settings_for(workers: u32) -> Settings
-    ensures { result ≡ record { rounds = 4; depth = 131072; workers = workers; speed = Speed.Untimed } }
+    ensures { result ≡ record { rounds = 4; depth = 131072; workers = workers; speed = Speed.Untimed; long = false } }
 {
     Settings {
         rounds: 4,
         depth: 131_072,
         workers,
         speed: Speed::Untimed,
+        long: false,
     }
 }
 

@@ -41,7 +41,7 @@ pub(crate) struct Way {
 // The most captured bytes of a card's packets, and the most bytes and messages of its output.
 const BYTES: usize = 60;
 
-const BODY_BYTES: u32 = 200;
+const BODY_BYTES: u64 = 200;
 
 const MESSAGES: u32 = 3;
 

@@ -12,7 +12,7 @@ enum Change {
     Depth(u32),
     Flows(usize),
     Size(u32),
-    BodyRoom(u32),
+    BodyRoom(u64),
     PacketRoom(u32),
 }
 
@@ -27,7 +27,7 @@ const CHANGES: [(Change, bool); 11] = [
     (Change::Depth(131_073), false),
     (Change::Flows(15), false),
     (Change::Size(MAX_MESSAGE_BYTES as u32 + 1), false),
-    (Change::BodyRoom(MAX_BODY + 1), false),
+    (Change::BodyRoom(MAX_BODY as u64 + 1), false),
     (Change::PacketRoom(MAX_MESSAGES + 1), false),
 ];
 
