@@ -13,9 +13,12 @@ LINKS = {
 }
 # What stands before the IP header of a packet of a link type that editcap makes raw IP of.
 HEADER_BYTES = {0: 4, 12: 0, 14: 0, 108: 4, 113: 16, 228: 0, 276: 20}
+# A pcapng file begins with the block of a section, whose bytes 8 to 11 tell its order, and the block of an interface.
+NEXT_GENERATION, SECTION_ORDER, INTERFACE, RESOLUTION = b"\x0a\x0d\x0d\x0a", b"\x4d\x3c\x2b\x1a", 1, 9
+MICROSECONDS_RESOLUTION, MOST_BLOCKS = 6, 4096
 # The first bytes of files that are no classic captures, and the command that makes one: IN and OUT are its files.
 MAGICS = (
-    (b"\x0a\x0d\x0d\x0a", "is a pcapng file", "editcap -F pcap IN OUT"),
+    (NEXT_GENERATION, "is a pcapng file", "editcap -F pcap IN OUT"),
     (b"\x1f\x8b", "is compressed by gzip", "zcat IN > OUT"),
     (b"\xfd7zXZ", "is compressed by xz", "xzcat IN > OUT"),
     (b"\x28\xb5\x2f\xfd", "is compressed by zstd", "zstdcat IN > OUT"),
@@ -59,10 +62,37 @@ def is_capture(name):
 def converted(command, name, added=".classic", form=".pcap"):
     """A command with the name of a file for IN, and for OUT a name that no file has, in a folder that may be written. Of a
     capture in nanoseconds it makes one in nanoseconds. The new name is that of an unpacked file, or else ends as is said."""
-    if first_bytes(name).startswith((LITTLE[1], BIG[1])):
-        command = command.replace("-F pcap", "-F nsecpcap").replace("tcpdump", "tcpdump --time-stamp-precision=nano")
+    command = with_unit(command, name)
     names = {"IN": name, "OUT": _new_name(name, added, form)}
     return re.sub(r"\b(IN|OUT)\b", lambda it: shlex.quote(as_file(names[it[0]])), command)
+
+
+def with_unit(command, name):
+    """A command that keeps the nanoseconds of a file that has them."""
+    if not is_nano(name):
+        return command
+    return command.replace("-F pcap", "-F nsecpcap").replace("tcpdump", "tcpdump --time-stamp-precision=nano")
+
+
+def is_nano(name):
+    """Whether a file is a capture in nanoseconds, classic or of the form pcapng."""
+    data = first_bytes(name, MOST_BLOCKS)
+    return data.startswith((LITTLE[1], BIG[1])) or data.startswith(NEXT_GENERATION) and _resolution_of(data) > MICROSECONDS_RESOLUTION
+
+
+def _resolution_of(data):
+    """The places of the seconds of a pcapng file's first interface, which has 6 where it says nothing."""
+    order = "little" if data[8:12] == SECTION_ORDER else "big"
+    at = int.from_bytes(data[4:8], order)  # The block behind that of the section.
+    if int.from_bytes(data[at:at + 4], order) != INTERFACE:
+        return MICROSECONDS_RESOLUTION
+    end, at = at + int.from_bytes(data[at + 4:at + 8], order) - 4, at + 16
+    while 0 < at + 4 <= end <= len(data):
+        code, length = (int.from_bytes(data[place:place + 2], order) for place in (at, at + 2))
+        if code == RESOLUTION:
+            return data[at + 4]
+        at += 4 + -(-length // 4) * 4
+    return MICROSECONDS_RESOLUTION
 
 
 def with_fix(text, command, name):

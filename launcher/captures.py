@@ -4,6 +4,7 @@
 without a copy.
 """
 
+import mmap
 import os
 import struct
 from functools import lru_cache
@@ -31,6 +32,10 @@ class BadCapture(ValueError):
 
 class Unseen(Exception):
     """Why captures are not looked at again."""
+
+
+class TooManyPackets(Unseen):
+    """There are more packets than are looked at after a run."""
 
 
 class Arrival(NamedTuple):
@@ -140,6 +145,11 @@ def fields_of(data: bytes) -> Iterator[Tuple[int, int, int, int]]:
         at = start + length
 
 
+def bytes_in(file) -> Union[bytes, mmap.mmap]:
+    """The bytes of an open regular file; each part is read where it is looked at."""
+    return mmap.mmap(file.fileno(), 0, access=mmap.ACCESS_READ) if os.fstat(file.fileno()).st_size else b""
+
+
 def stamp_nanos(name: str) -> int:
     """The nanoseconds of a step of the time stamps of a capture; of what is none, those of one in microseconds."""
     try:
@@ -163,8 +173,7 @@ class Records:
             raise Unseen(f"{self.told} is no file that can be read again")
         try:
             with open(self.name, "rb") as file:
-                data = file.read()
-            yield from fields_of(data)
+                yield from fields_of(bytes_in(file))
         except OSError as fault:
             raise Unseen(f"{self.told} cannot be read again: {fault.strerror}") from None
         except BadCapture as fault:
@@ -220,7 +229,7 @@ def on_line(packets, base, slot):
 
 def over(most):
     """That there are more packets than the most that are looked at."""
-    return Unseen(f"the captures have more than {most:,} packets; --dry-run before the command looks at all of them")
+    return TooManyPackets(f"the captures have more than {most:,} packets; --dry-run before the command looks at all of them")
 
 
 def first_time(packets_by_port, most=None):

@@ -5,14 +5,14 @@ import stat
 from typing import NamedTuple, Tuple
 
 from .capture_hints import first_bytes
-from .captures import CELL_PAYLOAD, LONGEST_FORWARDED, BadCapture, destination, on_line, read_header, records_of
-from .hints import fault_of_path
+from .captures import CELL_PAYLOAD, LONGEST_FORWARDED, BadCapture, bytes_in, destination, on_line, read_header, records_of
+from .hints import MOST_JOURNAL_BYTES, fault_of_path
+from .limits import MOST_TABLE_BYTES, limits_of
 from .made import HALVED_ABOVE, cells_of_gen, most_cells
 from .simulation_words import MOST_WAITING, cells_of
 from .tables import MAX_PORTS, BadTable, read_table, route
 from .words import SIMULATE
 
-MOST_BYTES, MOST_BYTES_OF_JOURNAL = 16_777_216, 134_217_728
 JOURNAL, MAX_ROUNDS = int.from_bytes(b"TTJ1", "big"), 64
 MOST_SLOTS, MOST_SLOTS_HALVED = 262_145, 131_073
 READ_FAULT, REFUSED, WRITE_FAULT = 3, 4, 6
@@ -84,7 +84,7 @@ class _Journal:
         self.name = job.names[0]
 
     def look(self):
-        if _is_seen(self.name, MOST_BYTES_OF_JOURNAL):
+        if _is_seen(self.name, MOST_JOURNAL_BYTES):
             at = bad_field(first_bytes(self.name, 12))
             if at is not None:
                 raise Refused(REFUSED, f"journal: bad at {at}")
@@ -107,7 +107,7 @@ class _Captures:
     """The table and the captures of a job, and the files that it writes."""
 
     def __init__(self, job):
-        self.job, self.limit = job, most_cells(len(job.inputs))
+        self.job, self.limits = job, limits_of(job)
         self.others = []  # Files that are not seen.
         self.routes = None
 
@@ -115,12 +115,13 @@ class _Captures:
         found = [f"{name}, which is no file that can be read twice" for name in self.others]
         if self.others:
             found.append("how many slots and cells the packets have")
-        found += [f"whether the {what} file would be too long" for what in ("journal", "packets") if f"--{what}" in self.job.options]
+        limited = () if self.job.is_long else ("journal", "packets")
+        found += [f"whether the {what} file would be too long" for what in limited if f"--{what}" in self.job.options]
         return (*found, "whether there is room in memory" + (" and on the disk" if self.job.command == "run" else ""))
 
     def look(self):
-        for name in (self.job.table, *self.job.inputs):
-            if not _is_seen(name, MOST_BYTES) and name not in self.others:
+        for name, most in ((self.job.table, MOST_TABLE_BYTES), *((name, self.limits.capture_bytes) for name in self.job.inputs)):
+            if not _is_seen(name, most) and name not in self.others:
                 self.others.append(name)
         self._read_table()
         heads = [self._read_capture(port) for port in range(len(self.job.inputs))]
@@ -135,7 +136,7 @@ class _Captures:
     def _read_table(self):
         if self.job.table not in self.others:
             try:
-                self.routes = read_table(_bytes_of(self.job.table), len(self.job.inputs))
+                self.routes = read_table(bytes(_bytes_of(self.job.table)), len(self.job.inputs))
             except BadTable as fault:
                 raise Refused(REFUSED, str(fault)) from None
 
@@ -152,27 +153,31 @@ class _Captures:
             raise Refused(REFUSED, f"capture {port}: {fault}") from None
 
     def _count(self, base):
-        """Refused where a port has too many arrival slots, or all packets have too many cells."""
-        cells, known = 0, {}
+        """Refused where a port has too many arrival slots, or all captures have too many packets or cells."""
+        packets, cells, known = 0, 0, {}
         for port, name in enumerate(self.job.inputs):
-            slots, more = self._counted(_bytes_of(name), base, known)
-            if slots > self.limit:
+            slots, more, cells_more = self._counted(_bytes_of(name), base, known)
+            if slots > self.limits.slots:
                 raise Refused(REFUSED, f"too many slots: port {port} has {slots}")
-            cells += more
-        if cells > self.limit:
+            packets += more
+            cells += cells_more
+        if self.limits.packets and packets > self.limits.packets:
+            raise Refused(REFUSED, f"too many packets: {packets}")
+        if cells > self.limits.cells:
             raise Refused(REFUSED, f"too many cells: {cells}")
 
     def _counted(self, data, base, known):
-        """The arrival slots of a port, and the cells of its packets, counted at each output; answers of routes are known."""
-        link, slots, cells = read_header(data).link, 0, 0
+        """The arrival slots of a port, its packets, and their cells, counted at each output; answers of routes are known."""
+        link, slots, packets, cells = read_header(data).link, 0, 0, 0
         for record, _, first, count in on_line(records_of(data), base, self.job.slot):
             slots = first + count
+            packets += 1
             address = destination(link, data[record.start:record.start + min(record.length, HEAD)])
             if address not in known:
                 known[address] = route(self.routes, address)
             if known[address] and record.length <= LONGEST_FORWARDED:
                 cells += count * len(known[address][0])
-        return slots, cells
+        return slots, packets, cells
 
     def _look_at_outputs(self):
         for name in self.job.outputs():
@@ -199,6 +204,6 @@ def _is_seen(name, most):
 def _bytes_of(name):
     try:
         with open(name, "rb") as file:
-            return file.read()
+            return bytes_in(file)
     except OSError:
         raise Refused(READ_FAULT, f"read fault: {name}") from None

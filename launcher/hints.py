@@ -6,12 +6,13 @@ import re
 
 from . import capture_hints, table_hints
 from .journal_hints import on_journal
+from .limits import MOST_TABLE_BYTES
 from .made import largest_count
 from .simulation_words import MOST_WAITING, queues_of
-from .too_many import on_bytes, on_cells, on_slots
-from .words import MAX_COUNT, SIMULATE, Fault, read_words
+from .too_many import on_bytes, on_cells, on_packets, on_slots
+from .words import LONG, MAX_COUNT, SIMULATE, Fault, read_words
 
-TOO_LONG = {"check": "134,217,728"}
+MOST_JOURNAL_BYTES = 134_217_728
 
 
 def hint(words, status, said):
@@ -79,7 +80,8 @@ def _on_standard_output(job):
 def _on_too_long(job, name):
     if name in job.inputs:
         return f"{_part_of(job, name)} {on_bytes(job, name)}"
-    return f"{_part_of(job, name)} may have at most {TOO_LONG.get(job.command, '16,777,216')} bytes"
+    most = MOST_JOURNAL_BYTES if job.command == "check" else MOST_TABLE_BYTES
+    return f"{_part_of(job, name)} may have at most {most:,} bytes"
 
 
 def _on_capture(job, port, said):
@@ -105,7 +107,8 @@ def _on_all_cells(job, cells):
 
 
 def _on_output_too_long(job, what):
-    return f"leave out --{what}, or run fewer packets: what it writes may have at most 134,217,728 bytes"
+    more = f"; with {LONG} it may have any number" if what == "packets" else ""
+    return f"leave out --{what}, or run fewer packets: what it writes may have at most 134,217,728 bytes{more}"
 
 
 def _on_journal(job, at):
@@ -127,6 +130,7 @@ HINTS = (
     (4, r"capture (\d+): (.*)", _on_capture),
     (4, r"link types (\d+) and (\d+)", capture_hints.on_two_links),
     (4, r"too many slots: port (\d+) has (\d+)", _of_line(on_slots)),
+    (4, r"too many packets: (\d+)", _of_line(on_packets)),
     (4, r"too many cells: (\d+)", _on_all_cells),
     (4, r"(journal|packets) too long: \d+", _on_output_too_long),
     (4, r"journal: bad at (\d+)", _on_journal),

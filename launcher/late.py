@@ -5,13 +5,15 @@ wait grows, and no number of the report has it. At a line rate many slots may ha
 stamp come one after the other though the line keeps up: so the slots of one step of the stamps are allowed besides.
 """
 
+import os
 from array import array
 from itertools import islice, repeat
 from typing import NamedTuple
 
-from .captures import CELL_PAYLOAD, MESSAGE_HEADER, Records, over, stamp_nanos
+from .captures import CELL_PAYLOAD, MESSAGE_HEADER, Records, TooManyPackets, over, stamp_nanos
 
 MOST_SLOTS = 1  # A packet that comes so many slots late is no late one.
+MOST_BYTES = 64 << 20
 
 
 class Late(NamedTuple):
@@ -79,6 +81,13 @@ def _late(line, base, slot, allowed):
 def allowed_slots(slot, stamp):
     """By how many slots a packet may come late whose capture has time stamps of so many nanoseconds."""
     return MOST_SLOTS + (slot.slots_in(stamp) if slot.is_of_rate else 0)
+
+
+def told_unseen(why, names):
+    """That late packets were not looked for, and why."""
+    if isinstance(why, TooManyPackets) and sum(map(os.path.getsize, names)) > MOST_BYTES:
+        return f"not looked at, over {MOST_BYTES >> 20} MiB (--dry-run looks)"
+    return f"not looked for: {why}"
 
 
 def lines_of_late(names, slot, most=None):

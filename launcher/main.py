@@ -8,9 +8,9 @@ from .builds import INSTALLED, LIBRARY, PROGRAM, PROGRAMS, SIMULATION
 from .place import Place, say, tell, tell_error
 from .ports import lines_of_job, lines_of_ports, refusal
 from .version import told_version
-from .words import COMMANDS, DRY_RUN, ETHERNET, OVERWRITE, OWN, RATE, SIMULATE, Fault, read_words, words_of_program
+from .words import COMMANDS, CONVERT, DRY_RUN, ETHERNET, OVERWRITE, OWN, RATE, SIMULATE, Fault, read_words, words_of_program
 
-USAGE_FAULT = 2
+USAGE_FAULT, REFUSED = 2, 4
 HELP = ("--help", "-h")
 # Words of their own, without a command.
 VERSION, WHERE, PROVE, ALL = "--version", "--library", "--prove", "all"
@@ -36,9 +36,23 @@ def main(top, words):
     if refused:
         say(refused)
         return USAGE_FAULT
-    if DRY_RUN in own:
-        return _no_text(words) or _dry_run(job, words, fault)
-    return _start(place, words, job, fault)
+    does = _dry_run if DRY_RUN in own else _start
+    if CONVERT in own and job and job.inputs:
+        return _converted(does, place, words, job)
+    return does(place, words, job, fault)
+
+
+def _converted(does, place, words, job):
+    """The status of a run, or of a look at one, of captures that are converted first."""
+    from .converting import Ended, Failed, converted
+    try:
+        with converted(job) as classic:
+            return does(place, words, classic, None)
+    except Failed as fault:
+        say(f"{CONVERT}: {fault}")
+        return REFUSED
+    except Ended as number:
+        return -number.args[0]
 
 
 def _own_answer(place, words):
@@ -135,8 +149,11 @@ def _prove(place, kind):
     return 0 if prove(place, kind) else 1
 
 
-def _dry_run(job, words, fault):
+def _dry_run(_, words, job, fault):
     """The status that a run would end with, as far as that is seen without one."""
+    status = _no_text(words)
+    if status:
+        return status
     if fault:
         say(f"{fault}")
         return USAGE_FAULT
@@ -146,7 +163,7 @@ def _dry_run(job, words, fault):
     status = tell([*lines_of_job(job), *(f"not looked at: {what}" for what in found.unseen)])
     if found.status:
         tell_error(found.said)
-        _tell_hint(words, found.status, found.said)
+        _tell_hint(words_of_program(job, words), found.status, found.said)
         return found.status
     if job.slot and job.inputs:
         _warn_of_late(job, True)
@@ -180,14 +197,14 @@ def _start(place, words, job, fault):
     _tell_rate(job)
     from .running import OLD_LIBRARY, needs_line, run
     try:
-        status, said = _simulate(program, job) if job and job.command == SIMULATE else run(program, words_of_program(job, words))
+        status, said = _simulate(program, job) if job and job.command == SIMULATE else run(program, words_of_program(job, words), _clock_of(job))
     except OSError as fault:
         say(needs_line(fault.strerror))
         return 1
     if status == 1 and OLD_LIBRARY in said:
         say(needs_line("its C library is older"))
     if status in HINTED:
-        _tell_hint(words, status, said)
+        _tell_hint(words_of_program(job, words), status, said)
     if status == 1 and not said:
         _no_text(words)
     if status == 0 and job and job.slot and job.inputs:
@@ -200,6 +217,14 @@ def _start(place, words, job, fault):
     if status == 0 and job and job.inputs:
         _warn_of_cut(job)
     return status
+
+
+def _clock_of(job):
+    """What shows how far a run of captures is, where one looks on."""
+    if not (job and job.inputs and os.isatty(2)):
+        return None
+    from .byte_clock import ByteClock
+    return ByteClock([job.table, *job.inputs])
 
 
 def _simulate(program, job):
@@ -242,12 +267,12 @@ def _program(place, kind, fault):
 def _warn_of_late(job, looks_at_all):
     """Tells of late packets, or why they are not looked for."""
     from .captures import MOST_PACKETS, Unseen
-    from .late import lines_of_late
+    from .late import lines_of_late, told_unseen
     try:
         lines = lines_of_late(job.inputs, job.slot, None if looks_at_all else MOST_PACKETS)
     except Unseen as why:
         lines = []
-        tell_error(f"late: not looked for: {why}")
+        tell_error(f"late: {told_unseen(why, job.inputs)}")
     for line in lines:
         tell_error(f"late: {line}")
     if lines:

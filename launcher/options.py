@@ -22,6 +22,7 @@ class Option(NamedTuple):
     suffix: str = ""  # Of the file that is written, behind PREFIX.
     stands_for: str = ""  # The option that has the same value in millionths.
     unit: str = ""  # Of the number.
+    high_long: int = 0  # The highest value of a long job, where that is another.
 
     def allowed(self):
         """What its value may be."""
@@ -33,7 +34,7 @@ class Option(NamedTuple):
         """Its value as the program takes it, None where the word is none."""
         if self.stands_for:
             return millionths(word)
-        is_value = word in self.choices if self.choices else is_number(word, self.low, self.high)
+        is_value = word in self.choices if self.choices else is_number(word, self.low, self.high_long or self.high)
         return word if is_value else None
 
 

@@ -21,12 +21,15 @@ class Clock:
         self.began = clock()
         self.told = 0
 
-    def __call__(self):
+    def second(self, _):
         """A second is over."""
         gone = self.clock() - self.began
         if int(gone * PARTS / self.seconds) > self.told:
             self.told = int(gone * PARTS / self.seconds)
             say(f"{time_of(gone)} gone, some {time_of(max(gone, self.seconds))} in all")
+
+    def clear(self):
+        """Its lines stay."""
 
 
 def clock_of(program, job):

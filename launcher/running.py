@@ -39,28 +39,31 @@ def needs_line(why):
     return f"the program cannot be started here ({why}): it needs {NEEDS}, and here is {here.sysname} on {here.machine} with {library or 'another'}"
 
 
-def run(program, words, on_second=None):
-    """The program's status, negative where a signal ended it, and what it said on standard error. Each second in which it
-    says nothing is told, where that is asked for."""
+def run(program, words, clock=None):
+    """The program's status, negative where a signal ended it, and what it said on standard error. A clock is told each second
+    in which it says nothing."""
     # A name as /dev/fd/63 stands for a file that the shell has opened, so open files are passed on.
     ran = subprocess.Popen([program, *words], stderr=subprocess.PIPE, close_fds=False, env=environment())
     signal.signal(signal.SIGINT, signal.SIG_IGN)  # It goes to the program too, which ends.
     for number in HANDED_ON:
         signal.signal(number, lambda it, _: ran.send_signal(it))
     said = b""
-    for piece in _pieces(ran.stderr.fileno(), on_second):
+    for piece in _pieces(ran, clock):
         said = (said + piece)[:KEPT]
         write_all(2, piece)
     return ran.wait(), said.decode(errors="surrogateescape")
 
 
-def _pieces(stream, on_second):
-    """What is written to a pipe, as it comes."""
+def _pieces(ran, clock):
+    """What a program says on standard error, as it comes."""
+    stream = ran.stderr.fileno()
     while True:
-        if on_second and not select.select([stream], [], [], 1)[0]:
-            on_second()
+        if clock and not select.select([stream], [], [], 1)[0]:
+            clock.second(ran.pid)
             continue
         piece = os.read(stream, KEPT)
+        if clock:
+            clock.clear()
         if not piece:
             return
         yield piece

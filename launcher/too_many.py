@@ -1,31 +1,35 @@
 """Hints on captures with too many packets: how many fit, or at which pace or line rate they do."""
 
+import os
 from itertools import takewhile
 
 from .capture_hints import converted
 from .captures import CELL_PAYLOAD, FILE_HEADER, MOST_PACKETS, BadCapture, Records, Unseen, first_time, on_line, read_header, records_of
-from .made import most_cells
+from .limits import LONG_LIMITS, limits_of, told_long
 from .slot_lengths import CELL_BYTES, MICROSECOND, MOST_PACE_US, SECOND, short
 from .sources import stamp_of
 from .words import PACE, RATE
 
+KEEPS = "editcap -F pcap -r IN OUT 1-K keeps the first K of a capture"
 
-def on_slots(job, port, _):
+
+def on_slots(job, port, slots):
     """A port with too many arrival slots: by its packets alone, or by their times."""
+    more = told_long(job, slots, LONG_LIMITS.slots)
     try:
-        return _on_slots(job, port, [Records(*it) for it in enumerate(job.inputs)])
+        return _on_slots(job, port, [Records(*it) for it in enumerate(job.inputs)]) + more
     except Unseen:
-        return None
+        return f"a port may have at most {limits_of(job).slots:,} arrival slots{more}" if more else None
 
 
 def _on_slots(job, port, found):
-    name, limit = job.inputs[port], most_cells(len(job.inputs))
+    name, limit = job.inputs[port], limits_of(job).slots
     text = f"a port may have at most {limit:,} arrival slots"
+    base = first_time(found, MOST_PACKETS)
     cells = [it.cells for it in on_line(found[port], 0, None)]
     if sum(cells) > limit:
         fix = converted(f"editcap -F pcap -r IN OUT 1-{_that_fit(cells, limit)}", name)
         return f"{text}, and the packets of {name} have {sum(cells):,} cells; to keep the first that fit: {fix}"
-    base = first_time(found, MOST_PACKETS)
     times = [packet.time for packet in found[port]]
     fits = _that_fits(job, _times_and_room(found, base, limit))
     count = _count_that_fit(found[port], base, limit, job.slot)
@@ -68,15 +72,18 @@ def _that_fits(job, times_and_room):
 
 def on_bytes(job, name):
     """A capture with more bytes than are read, and so with too many cells: how many of its packets fit."""
-    limit = most_cells(len(job.inputs))
+    if job.is_long:
+        return f"may have at most {limits_of(job).capture_bytes:,} bytes; {KEEPS}"
+    limit = limits_of(job).cells
     most = FILE_HEADER + CELL_PAYLOAD * limit  # A cell has at most so many bytes of a record.
     text = f"may have at most {limit:,} cells, so at most {most:,} bytes"
     if not stamp_of(name):
         return text
+    more = told_long(job, os.stat(name).st_size, LONG_LIMITS.capture_bytes)
     count = _first_that_fit(name, most, limit, job.slot)
     if count is None:
-        return text + "; to keep its first 1,000 packets: " + converted("editcap -F pcap -r IN OUT 1-1000", name)
-    return text + "; to keep its first packets that fit: " + converted(f"editcap -F pcap -r IN OUT 1-{count}", name)
+        return text + "; to keep its first 1,000 packets: " + converted("editcap -F pcap -r IN OUT 1-1000", name) + more
+    return text + "; to keep its first packets that fit: " + converted(f"editcap -F pcap -r IN OUT 1-{count}", name) + more
 
 
 def _first_that_fit(name, most, limit, slot):
@@ -105,7 +112,12 @@ def _whole_records(data):
 
 
 def on_cells(job, cells):
-    limit = most_cells(len(job.inputs))
+    limit = limits_of(job).cells
     part = 100 * limit // cells
-    fix = "editcap -F pcap -r IN OUT 1-K keeps the first K of a capture"
-    return f"all packets may have at most {limit:,} cells, a multicast one counted at each output: {part} per cent of them fit, and {fix}"
+    text = f"all packets may have at most {limit:,} cells, a multicast one counted at each output: {part} per cent of them fit, and {KEEPS}"
+    return text + told_long(job, cells, LONG_LIMITS.cells)
+
+
+def on_packets(job, packets):
+    limit = limits_of(job).packets
+    return f"all captures together may have at most {limit:,} packets: {100 * limit // packets} per cent of them fit, and {KEEPS}"

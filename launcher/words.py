@@ -17,26 +17,28 @@ MAX_SEED, MAX_COUNT = 1_000_000_000, 4_000
 PACE, RATE = "--pace-us", "--line-rate"
 ETHERNET = "--ethernet"  # The launcher's own: the program is given a line rate.
 LENGTHS = (PACE, RATE, ETHERNET)  # Each says how long a slot lasts.
+DEPTH, SLOTS, JOURNAL, LONG = "--depth", "--slots", "--journal", "--long"
 
 OPTIONS = {
     "--rounds": Option(("run", "gen", "firm"), "R", 1, 64),
-    "--depth": Option(("run", "gen", "firm"), "D", 1, 131_072),
+    DEPTH: Option(("run", "gen", "firm"), "D", 1, 131_072, high_long=1 << 30),
     "--workers": Option(("run", "gen"), "W", 1, 32),
     PACE: Option(("run", "firm"), "K", 1, MOST_PACE_US),
     RATE: Option(("run", "firm"), "MBPS", 1, MOST_RATE, unit="Mbit/s"),
     ETHERNET: Option(("run", "firm"), "E", 1, MOST_ETHERNET, unit="Mbit/s"),
     "--scheduler": Option(("run", "gen", "check"), "NAME", choices=("islip", "firm", "rrm")),
-    "--slots": Option(("run",)),
-    "--journal": Option(("run",), suffix=".journal"),
+    SLOTS: Option(("run",)),
+    JOURNAL: Option(("run",), suffix=".journal"),
     "--reference": Option(("run",)),
     "--queues": Option(("run",)),
     "--packets": Option(("run",), suffix=".packets.csv"),
     "--alone": Option(("run",)),
+    LONG: Option(("run", "firm")),
 }
 
 # Words of the launcher's own, which come before the command.
-OVERWRITE, DRY_RUN = "--overwrite-inputs", "--dry-run"
-OWN = (OVERWRITE, DRY_RUN)
+OVERWRITE, DRY_RUN, CONVERT = "--overwrite-inputs", "--dry-run", "--convert"
+OWN = (OVERWRITE, DRY_RUN, CONVERT)
 
 SYNOPSIS = {
     "run": "run [options] TABLE PREFIX INPUT..",
@@ -66,6 +68,15 @@ class Job(NamedTuple):
     def inputs(self):
         """The captures of the ports, port 0 first."""
         return {"run": self.names[2:], "firm": self.names[1:]}.get(self.command, [])
+
+    def with_inputs(self, inputs):
+        """The same job of other captures, as many."""
+        return self._replace(names=self.names[:len(self.names) - len(inputs)] + inputs)
+
+    @property
+    def is_long(self):
+        """Whether the job has the limits of a long one."""
+        return LONG in self.options
 
     @property
     def slot_option(self):
@@ -119,16 +130,18 @@ def read_words(words):
         else:
             at = _read_option(command, options, word, rest, at)
     job = Job(command, options, names)
+    _test_options(job)
     _test_names(job)
     return job
 
 
 def words_of_program(job, words):
-    """The words of a job, where they mean one, as the program takes them."""
-    if job is None or ETHERNET not in job.options:
+    """The words of a job, where they mean one, as the program takes them: as they are, where these mean the same."""
+    if job is None or ETHERNET not in job.options and job == read_words(words):
         return words
     options = dict(job.options)
-    options[RATE] = str(rate_for(int(options.pop(ETHERNET))))
+    if ETHERNET in options:
+        options[RATE] = str(rate_for(int(options.pop(ETHERNET))))
     return [job.command, *(f"{name}={value}" if OPTIONS[name].letter else name for name, value in options.items()), "--", *job.names]
 
 
@@ -158,14 +171,31 @@ def _read_option(command, options, word, rest, at):
     return at
 
 
+def _test_options(job):
+    """Tests the options that stand together."""
+    depth, option = job.options.get(DEPTH, "1"), options_of(job.command).get(DEPTH)
+    if option and option.high_long and not job.is_long and int(depth) > option.high:
+        raise Fault(_not_allowed(job.command, DEPTH, depth))
+    clash = next((it for it in (SLOTS, JOURNAL) if it in job.options), None)
+    if job.is_long and clash:
+        raise Fault(f"{LONG} and {clash} do not go together: a long run has slots too many to be written one by one")
+
+
 def _value(command, name, word):
     """The value of an option as the program takes it, else a Fault."""
-    option = options_of(command)[name]
-    value = option.read(word)
-    if value is not None:
-        return value
+    value = options_of(command)[name].read(word)
+    if value is None:
+        raise Fault(_not_allowed(command, name, word))
+    return value
+
+
+def _not_allowed(command, name, word):
+    """That a word is no value of an option, and what may stand there."""
+    option, taken = options_of(command)[name], options_of(command)
     more = near(word.lower(), option.choices) + simulation_words.in_millionths(command, name, word)
-    raise Fault(f"{name} {word}: {option.letter} is {option.allowed()}{more}")
+    if option.high_long and LONG in taken:
+        more += f"; with {LONG} up to {option.high_long:,}"
+    return f"{name} {word}: {option.letter} is {option.allowed()}{more}"
 
 
 def _no_command(word):

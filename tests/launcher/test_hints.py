@@ -19,6 +19,8 @@ ORDER = "tiny_tera run [options] TABLE PREFIX INPUT.."
 TOO_LONG = "a port may have at most 131,072 arrival slots, and b.pcap lasts longer than so many slots of"
 AFTER = "after the first packet of all captures"
 FIRST = "; to keep its first packets that fit: editcap -F pcap -r b.pcap b.classic.pcap 1-1"
+# Of how many bytes, slots and cells a long job takes.
+LONG_BYTES, LONG_SLOTS, LONG_CELLS = (f"; with --long up to {most}" for most in ("4,294,967,295", "2,147,483,648", "1,073,741,824"))
 
 # The words, and the hint.
 USAGE = [
@@ -27,7 +29,13 @@ USAGE = [
     (["table.txt", "out"], "'table.txt' is no command: the first word is run, gen, check, firm or simulate"),
     (["--rounds", "2", "run"], "the command comes before --rounds: run, gen, check, firm or simulate"),
     (["run", "--rounds", "65", "t", "out", "a"], "--rounds 65: R is a number from 1 to 64"),
-    (["run", "--depth=131073", "t", "out", "a"], "--depth 131073: D is a number from 1 to 131,072, written without commas"),
+    (["run", "--depth=131073", "t", "out", "a"], f"--depth 131073: D is a number from 1 to 131,072, written without commas{LONG_CELLS}"),
+    (["gen", "--depth=131073", "1", "2", "3"], "--depth 131073: D is a number from 1 to 131,072, written without commas"),
+    (["firm", "--depth", "1073741825", "--long", "t", "a"], f"--depth 1073741825: D is a number from 1 to 131,072, written without commas{LONG_CELLS}"),
+    (["run", "--long", "--slots", "t", "out", "a"], "--long and --slots do not go together: a long run has slots too many to be written one by one"),
+    (["run", "--journal", "t", "out", "a", "--long"], "--long and --journal do not go together: a long run has slots too many to be written one by one"),
+    (["gen", "--long", "1", "2", "3"], "gen does not take --long; it takes --rounds, --depth, --workers or --scheduler"),
+    (["run", "--long=1", "t", "out", "a"], "--long has no value: leave out =1"),
     (["run", "--workers", "33", "t", "out", "a"], "--workers 33: W is a number from 1 to 32"),
     (["firm", "--pace-us", "0.5", "t", "a"], "--pace-us 0.5: K is a number from 1 to 1,000,000, written without commas"),
     (["run", "--line-rate", "10G", "t", "out", "a"], "--line-rate 10G: MBPS is a number of Mbit/s from 1 to 1,600,000, written without commas"),
@@ -236,11 +244,11 @@ class Hints(Scene):
             (capture(*large), "its first packets that fit: editcap -F pcap -r a.pcap a.classic.pcap 1-111"),
             (b"\x0a\x0d\x0d\x0a" + bytes(20) + zeros, "its first 1,000 packets: editcap -F pcap -r a.pcap a.classic.pcap 1-1000"),
         ):
-            hint = f"the capture of port 0 {most}; to keep {fix}"
+            hint = f"the capture of port 0 {most}; to keep {fix}{LONG_BYTES}"
             self.check(RUN, 4, "too long: a.pcap", hint, {**GOOD, "a.pcap": data})
         # Three packets of one cell, of which the last comes after the last slot.
         files = {**GOOD, "a.pcap": capture(bytes(9), bytes(9), bytes(9), times=[0, 131_071, 131_072]) + zeros}
-        hint = f"the capture of port 0 {most}; to keep its first packets that fit: editcap -F pcap -r a.pcap a.classic.pcap 1-2"
+        hint = f"the capture of port 0 {most}; to keep its first packets that fit: editcap -F pcap -r a.pcap a.classic.pcap 1-2{LONG_BYTES}"
         self.check(["run", "--pace-us", "1", *RUN[1:]], 4, "too long: a.pcap", hint, files)
         self.check(RUN, 4, "too long: table.txt", "TABLE may have at most 16,777,216 bytes", {**GOOD, "table.txt": b"#" * 16_777_217})
 
@@ -249,12 +257,12 @@ class Hints(Scene):
         files = {**GOOD, "a.pcap": capture(*[bytes(65_520)] * 112)}
         hint = (
             "a port may have at most 131,072 arrival slots, and the packets of a.pcap have 131,152 cells;"
-            " to keep the first that fit: editcap -F pcap -r a.pcap a.classic.pcap 1-111"
+            f" to keep the first that fit: editcap -F pcap -r a.pcap a.classic.pcap 1-111{LONG_SLOTS}"
         )
         self.check(RUN, 4, "too many slots: port 0 has 131152", hint, files)
         # The last of two packets of two cells comes after 400,000 microseconds: in slot 130,718 at most at a pace of 4.
         files = {**GOOD, "b.pcap": capture(frame(), frame(), times=[0, 400_000])}
-        hint = f"{TOO_LONG} 2 us, to 0.4 s {AFTER}: at --pace-us 4 the packets fit{FIRST}"
+        hint = f"{TOO_LONG} 2 us, to 0.4 s {AFTER}: at --pace-us 4 the packets fit{FIRST}{LONG_SLOTS}"
         words = ["run", "--pace-us", "2", "table.txt", "out", "a.pcap", "b.pcap"]
         self.check(words, 4, "too many slots: port 1 has 200002", hint, files)
 
@@ -268,11 +276,11 @@ class Hints(Scene):
         ):
             files = {**GOOD, "b.pcap": capture(frame(), frame(), times=[0, apart])}
             words = ["run", "--line-rate", str(rate), "table.txt", "out", "a.pcap", "b.pcap"]
-            self.check(words, 4, f"too many slots: port 1 has {slots}", f"{TOO_LONG} {told}{FIRST}", files)
+            self.check(words, 4, f"too many slots: port 1 has {slots}", f"{TOO_LONG} {told}{FIRST}{LONG_SLOTS}", files)
         self.files(table_txt="* 0\n", b_pcap=capture(frame(), frame(), times=[0, 5_000]), a_pcap=capture())
         said = "too many slots: port 1 has 154962"
         told = self.launch("run", "--ethernet", "10000", "table.txt", "out", "a.pcap", "b.pcap", SAID=said, STATUS="4").stderr.splitlines()
-        self.assertEqual(told[1:], [said, f"hint: {TOO_LONG} 32.266 ns, to 0.005 s {AFTER}: at --line-rate 13421 the packets fit{FIRST}"])
+        self.assertEqual(told[1:], [said, f"hint: {TOO_LONG} 32.266 ns, to 0.005 s {AFTER}: at --line-rate 13421 the packets fit{FIRST}{LONG_SLOTS}"])
 
     def test_captures_of_different_days(self):
         """A capture that fits alone is to be moved in time; the name of what is made of it is new."""
@@ -290,9 +298,9 @@ class Hints(Scene):
         """The hint comes whatever size the captures have together, here 73 MB."""
         self.files(table_txt="* 0\n", a_pcap=capture(*[bytes(65_520)] * 112))
         told = self.launch("run", "table.txt", "out", *["a.pcap"] * 10, SAID="too many slots: port 7 has 131152", STATUS="4").stderr
-        self.assertTrue(told.endswith("; to keep the first that fit: editcap -F pcap -r a.pcap a.classic.pcap 1-111\n"), told)
+        self.assertTrue(told.endswith(f"; to keep the first that fit: editcap -F pcap -r a.pcap a.classic.pcap 1-111{LONG_SLOTS}\n"), told)
         files = {**GOOD, "b.pcap": capture(frame(), frame(), times=[0, 400_000]), "a.pcap": capture()}
-        hint = f"{TOO_LONG} 2 us, to 0.4 s {AFTER}: at --pace-us 4 the packets fit{FIRST}"
+        hint = f"{TOO_LONG} 2 us, to 0.4 s {AFTER}: at --pace-us 4 the packets fit{FIRST}{LONG_SLOTS}"
         words = ["run", "--pace-us", "2", "table.txt", "out", "a.pcap", "b.pcap"]
         self.check(words, 4, "too many slots: port 1 has 200002", hint, files)
 
@@ -301,9 +309,31 @@ class Hints(Scene):
         files = {"table.txt": "* 0\n", "a.pcap": capture(*[bytes(65_520)] * 111)}
         hint = (
             "all packets may have at most 131,072 cells, a multicast one counted at each output: 50 per cent of them fit,"
-            " and editcap -F pcap -r IN OUT 1-K keeps the first K of a capture"
+            f" and editcap -F pcap -r IN OUT 1-K keeps the first K of a capture{LONG_CELLS}"
         )
         self.check(["run", "table.txt", "out", "a.pcap", "a.pcap"], 4, "too many cells: 259962", hint, files)
+
+    def test_too_many_packets(self):
+        self.files(table_txt="* 0\n", a_pcap=capture())
+        told = self.launch("run", "--long", "table.txt", "out", "a.pcap", SAID="too many packets: 2147483648", STATUS="4").stderr
+        hint = "all captures together may have at most 1,073,741,824 packets: 50 per cent of them fit, and editcap -F pcap -r IN OUT 1-K keeps"
+        self.assertEqual(told.splitlines()[1], f"hint: {hint} the first K of a capture")
+
+    def test_long_jobs(self):
+        """What a long job has too much of, and where a job would be a long one without a word that it has."""
+        self.files(table_txt="* 0\n", a_pcap=capture(frame(), frame(), times=[0, 3_000_000_000]))
+        for words, said, hint in (
+            (["--long", "--pace-us=1"], "too many slots: port 0 has 3000000002",
+             f"a port may have at most 2,147,483,648 arrival slots, and a.pcap lasts longer than so many slots of 1 us, to 3,000 s {AFTER}:"
+             " at --pace-us 2 the packets fit; to keep its first packets that fit: editcap -F pcap -r a.pcap a.classic.pcap 1-1"),
+            (["--long"], "too long: a.pcap",
+             "the capture of port 0 may have at most 4,294,967,295 bytes; editcap -F pcap -r IN OUT 1-K keeps the first K of a capture"),
+            (["--slots", "--journal"], "too many cells: 262144",
+             "all packets may have at most 131,072 cells, a multicast one counted at each output: 50 per cent of them fit, and editcap -F pcap"
+             " -r IN OUT 1-K keeps the first K of a capture; with --long and without --slots and --journal up to 1,073,741,824"),
+        ):
+            told = self.launch("run", *words, "table.txt", "out", "a.pcap", SAID=said, STATUS="4").stderr
+            self.assertEqual(told.splitlines(), [said, f"hint: {hint}"])
 
     def test_largest_count(self):
         for count, said in (("4000", "too many cells: 263219"), ("1997", "too many cells: 131137")):
@@ -312,7 +342,9 @@ class Hints(Scene):
     def test_outputs_too_long(self):
         for what in ("journal", "packets"):
             told = self.launch("run", "t", "out", "a", SAID=f"{what} too long: 134217729", STATUS="4").stderr
-            self.assertEqual(told.splitlines()[1], f"hint: leave out --{what}, or run fewer packets: what it writes may have at most 134,217,728 bytes")
+            more = "; with --long it may have any number" if what == "packets" else ""
+            hint = f"hint: leave out --{what}, or run fewer packets: what it writes may have at most 134,217,728 bytes{more}"
+            self.assertEqual(told.splitlines()[1], hint)
 
     def test_journals(self):
         journal = bytes.fromhex("54544a31020400000000000100000000ff00ff00")

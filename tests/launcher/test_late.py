@@ -4,7 +4,7 @@ import os
 import struct
 
 from launcher.captures import Record, Records, Unseen, first_time, on_line
-from launcher.late import allowed_slots, late_ports, lines_of_late
+from launcher.late import allowed_slots, late_ports, lines_of_late, told_unseen
 from launcher.slot_lengths import of_pace, of_rate, rate_for
 
 from .scene import TOP, Scene, capture, frame
@@ -76,6 +76,10 @@ class Late(Scene):
         told = "the captures have more than 3 packets; --dry-run before the command looks at all of them"
         self.assertEqual(str(why.exception), told)
         self.assertEqual([len(lines_of_late(names, of_pace(5), most)) for most in (4, None)], [1, 1])
+        self.assertEqual(told_unseen(why.exception, names), f"not looked for: {told}")
+        self.files(long_pcap=capture(*[bytes(65_014)] * 107))
+        text = "not looked at, over 64 MiB (--dry-run looks)"
+        self.assertEqual(told_unseen(why.exception, [str(self.jobs / "long.pcap")] * 10), text)
 
     def test_first_cells(self):
         """They come in the slots of captures.on_line."""

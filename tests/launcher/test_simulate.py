@@ -191,7 +191,7 @@ class Clocks(unittest.TestCase):
             clock = Clock(30, lambda: now[0])
             for second in range(1, 40):
                 now[0] = second
-                clock()
+                clock.second(0)
         self.assertEqual(said[0], "3 s gone, some 30 s in all")
         self.assertEqual([int(line.split()[0]) for line in said], list(range(3, 40, 3)))
         self.assertEqual(said[-1], "39 s gone, some 39 s in all")

@@ -1,0 +1,151 @@
+"""Captures of other forms, converted before a run; and what is shown while a run of captures goes on."""
+
+import gzip
+import os
+import pty
+import shutil
+import signal
+import struct
+import subprocess
+import time
+import unittest
+from pathlib import Path
+
+from launcher.byte_clock import ByteClock, bytes_of
+from launcher.capture_hints import is_nano
+
+from .scene import Scene, capture, frame
+
+# In the place of editcap: the second file is the first without its first four bytes.
+FAKE_EDITCAP = """#!/bin/sh
+echo "$*" >>"$EDITCAP_CALLS"
+[ -z "$EDITCAP_FAILS" ] || { echo "editcap: no packets" >&2; exit 2; }
+[ -z "$EDITCAP_WAITS" ] || { touch "$EDITCAP_WAITS"; sleep 60; }
+tail -c +5 "$3" >"$4"
+"""
+NEXT = b"\x0a\x0d\x0d\x0a"
+CLASSIC = capture(frame())
+
+
+def next_generation(order, resolution):
+    """The first two blocks of a pcapng file, whose interface has time stamps of so many places, or says nothing of it."""
+    section = struct.pack(order + "IIIHHqI", 0x0A0D0D0A, 28, 0x1A2B3C4D, 1, 0, -1, 28)
+    options = struct.pack(order + "HH4sHHBxxxI", 2, 3, b"eth\0", 9, 1, resolution, 0) if resolution else b""
+    size = 20 + len(options)
+    return section + struct.pack(order + "IIHHI", 1, size, 1, 0, 0) + options + struct.pack(order + "I", size)
+
+
+class Convert(Scene):
+    def setUp(self):
+        super().setUp()
+        self.build()
+        self.executable(self.room / "bin/editcap", FAKE_EDITCAP)
+        self.notes, self.seen = self.room / "notes", self.room / "seen"
+        self.variables.update(TMPDIR=str(self.room / "tmp"), EDITCAP_CALLS=str(self.room / "editcaps"), NOTES=str(self.notes))
+        (self.room / "tmp").mkdir()
+        self.files(table_txt="* 0\n", a_pcapng=NEXT + CLASSIC, b_pcap=CLASSIC, c_gz=gzip.compress(NEXT + CLASSIC, mtime=0))
+
+    def left(self):
+        return os.listdir(self.room / "tmp")
+
+    def test_run(self):
+        """The program is given classic captures, which are gone afterwards; one that is classic stays as it is."""
+        copies = 'for name in "$@"; do case "$name" in */tiny_tera.*) cat "$name" >>"$SEEN";; esac; done'
+        words = ["run", "--rounds", "2", "table.txt", "out", "a.pcapng", "b.pcap", "c.gz"]
+        ended = self.launch("--convert", *words, CODE=copies, SEEN=str(self.seen))
+        self.assertEqual((ended.returncode, ended.stdout), (0, "summary\n"))
+        told = ended.stderr.splitlines()
+        steps = ["a.pcapng is a pcapng file", "c.gz is compressed by gzip", "c.gz is a pcapng file"]
+        self.assertEqual([line.split(": ")[1] for line in told], steps)
+        self.assertRegex(told[1], r": zcat c\.gz > \S+/2\.0\.pcap$")
+        words = self.notes.read_text().splitlines()[:-1]
+        self.assertEqual(words[:5] + words[6:7], ["run", "--rounds=2", "--", "table.txt", "out", "b.pcap"])
+        self.assertEqual(self.seen.read_bytes(), 2 * CLASSIC)
+        self.assertEqual(self.left(), [])
+
+    def test_nothing_to_convert(self):
+        words = ["firm", "--rounds", "2", "table.txt", "b.pcap"]
+        ended = self.launch("--convert", *words)
+        self.assertEqual((ended.returncode, ended.stderr), (0, ""))
+        self.assertEqual(self.notes.read_text().splitlines()[:-1], words)
+
+    def test_dry_run(self):
+        ended = self.launch("--convert", "--dry-run", "run", "table.txt", "out", "a.pcapng")
+        self.assertEqual(ended.returncode, 0, ended.stderr)
+        self.assertIn(", 1 packet\n", ended.stdout)
+        self.assertEqual(self.left(), [])
+
+    def test_tool_fails(self):
+        ended = self.launch("--convert", "run", "table.txt", "out", "a.pcapng", EDITCAP_FAILS="1")
+        told = "tiny_tera: --convert: editcap ended with status 2: editcap: no packets"
+        self.assertEqual((ended.returncode, ended.stderr.splitlines()[1]), (4, told))
+        self.assertFalse(self.notes.exists())
+        self.assertEqual(self.left(), [])
+
+    def test_tool_is_missing(self):
+        (self.room / "bin/editcap").unlink()
+        if shutil.which("editcap"):
+            self.variables["PATH"] = f"{self.room / 'bin'}:{self.only('python3', 'sh', 'git', 'env', 'readlink', 'dirname')}"
+        ended = self.launch("--convert", "run", "table.txt", "out", "a.pcapng")
+        told = "tiny_tera: --convert: editcap is not there; Debian's package wireshark-common has it"
+        self.assertEqual((ended.returncode, ended.stderr.splitlines()[1:]), (4, [told]), ended.stderr)
+
+    def only(self, *names):
+        """A folder with these commands alone."""
+        folder = self.room / "only"
+        folder.mkdir()
+        for name in names:
+            (folder / name).symlink_to(shutil.which(name))
+        return folder
+
+    def test_interrupted(self):
+        """A signal that comes while a capture is converted ends the launcher, and the folder goes."""
+        for number in (signal.SIGTERM, signal.SIGINT):
+            waits = self.room / f"waits.{number}"
+            words = [self.top / "tiny_tera", "--convert", "run", "table.txt", "out", "a.pcapng"]
+            variables = {**self.variables, "EDITCAP_WAITS": str(waits)}
+            # Who runs tests in the background may have this signal ignored.
+            heeds = lambda: signal.signal(signal.SIGINT, signal.SIG_DFL)
+            ran = subprocess.Popen(words, cwd=self.jobs, env=variables, stderr=subprocess.DEVNULL, preexec_fn=heeds)
+            while not waits.exists():
+                time.sleep(0.01)
+            ran.send_signal(number)
+            self.assertEqual(ran.wait(), -number)
+            self.assertEqual(self.left(), [])
+
+    def test_nanoseconds(self):
+        for order in "<>":
+            for resolution, is_fine in ((None, False), (6, False), (9, True)):
+                self.write("n.pcapng", next_generation(order, resolution))
+                self.assertEqual(is_nano(str(self.jobs / "n.pcapng")), is_fine, (order, resolution))
+
+    @unittest.skipUnless(shutil.which("editcap"), "editcap is not there")
+    def test_nanoseconds_of_editcap(self):
+        (self.room / "bin/editcap").unlink()
+        for form, is_fine in (("pcap", False), ("nsecpcap", True)):
+            self.write("b.pcap", CLASSIC)
+            subprocess.run(["editcap", "-F", form, "b.pcap", "c.pcap"], cwd=self.jobs, check=True)
+            subprocess.run(["editcap", "-F", "pcapng", "c.pcap", "c.pcapng"], cwd=self.jobs, check=True)
+            self.assertEqual(is_nano(str(self.jobs / "c.pcapng")), is_fine)
+
+
+class Shown(Scene):
+    def test_terminal(self):
+        """Each second of a run a line of the terminal has what was read and written; what the program writes is the same."""
+        self.build()
+        self.files(table_txt="* 0\n", a_pcap=bytes(4_000_000))
+        ours, theirs = pty.openpty()
+        self.addCleanup(os.close, ours)
+        words = [self.top / "tiny_tera", "run", "table.txt", "out", "a.pcap"]
+        variables = {**self.variables, "CODE": "cat a.pcap >b.pcap; sleep 2.5"}
+        ran = subprocess.run(words, cwd=self.jobs, env=variables, stdout=subprocess.PIPE, stderr=theirs)
+        os.close(theirs)
+        self.assertEqual((ran.returncode, ran.stdout), (0, b"summary\n"))
+        self.assertRegex(os.read(ours, 4096), rb"\r\x1b\[K1 s: 4 of 4 MB read, 4 MB written\r\x1b\[K2 s: .*\r\x1b\[K$")
+
+    def test_bytes(self):
+        moved = bytes_of(os.getpid())
+        Path("/dev/zero").open("rb").read(1_000_000)
+        self.assertGreaterEqual(bytes_of(os.getpid())[0] - moved[0], 1_000_000)
+        self.assertIsNone(bytes_of(0))
+        self.assertEqual([ByteClock(names).size for names in ([], ["/dev/null"], ["gone"])], [0, 0, 0])
