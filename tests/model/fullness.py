@@ -45,8 +45,8 @@ def waiting_cells(run: Run) -> Iterator[Waiting]:
             entering[run.plan.cards[port][number].arrival].append((port, number))
     waiting: DefaultDict[Place, Deque[Tuple[int, int]]] = defaultdict(deque)
     gone: DefaultDict[Place, Set[int]] = defaultdict(set)  # The outputs for which the head has left.
-    for slot_number, slot in enumerate(run.slots):
-        for port, number in entering[slot_number]:
+    for slot in run.slots:
+        for port, number in entering[slot.number]:
             cells = range(run.plan.cards[port][number].cells)
             waiting[place_of(run, port, number)].extend((number, cell) for cell in cells)
         yield waiting
@@ -72,10 +72,10 @@ def serve(run: Run, slot: Slot, waiting: Waiting, gone: DefaultDict[Place, Set[i
 def peaks_of(run: Run) -> Dict[Place, Tuple[int, int]]:
     """For each queue in which a cell waited the most that did, and the first slot in which so many did."""
     peaks: Dict[Place, Tuple[int, int]] = {}
-    for slot, waiting in enumerate(waiting_cells(run)):
+    for slot, waiting in zip(run.slots, waiting_cells(run)):
         for place, cells in waiting.items():
             if len(cells) > peaks.get(place, (0, 0))[0]:
-                peaks[place] = (len(cells), slot)
+                peaks[place] = (len(cells), slot.number)
     return peaks
 
 

@@ -18,7 +18,8 @@ from .schedulers import SCHEDULERS
 from .texts import joined, report_lines, slot_lines, summary_lines, summary_of
 from .words import USAGE, CheckJob, FirmJob, GenJob, RunJob, job_of
 
-MOST_BYTES = 16_777_216  # Of a table or a capture.
+MOST_BYTES = 16_777_216  # Of a table, or of a capture of a job that is not long.
+MOST_LONG_BYTES = (1 << 32) - 1  # Of a capture of a long one.
 MOST_JOURNAL = MOST_PACKETS = 134_217_728  # Bytes of a journal and of a packets file.
 PIECE = 65_536
 Files = Union[MemoryFiles, FolderFiles]
@@ -71,8 +72,8 @@ def print_lines(files: Files, lines: Sequence[str]) -> None:
 def run_files(settings: Settings, table: str, inputs: Sequence[str], scheduler: str, files: Files) -> Outcome:
     """The run of a table and captures, which are read in this order."""
     text = read_whole(files, table, MOST_BYTES)
-    captures = [read_whole(files, name, MOST_BYTES) for name in inputs]
-    return outcome_of(run_plan(plan_files(settings, text, captures), SCHEDULERS[scheduler]))
+    captures = [read_whole(files, name, MOST_LONG_BYTES if settings.is_long else MOST_BYTES) for name in inputs]
+    return outcome_of(run_plan(plan_files(settings, text, captures), SCHEDULERS[scheduler], settings.is_long))
 
 
 def report_of(job: RunJob, outcome: Outcome) -> bytes:
@@ -98,7 +99,7 @@ def outputs_of(job: RunJob, outcome: Outcome) -> List[Tuple[str, bytes]]:
         outputs.append((f"{job.prefix}.journal", not_over(MOST_JOURNAL, "journal", data)))
     if "packets" in job.flags:
         data = packets_text(outcome).encode("ascii")
-        outputs.append((f"{job.prefix}.packets.csv", not_over(MOST_PACKETS, "packets", data)))
+        outputs.append((f"{job.prefix}.packets.csv", data if job.settings.is_long else not_over(MOST_PACKETS, "packets", data)))
     return outputs
 
 

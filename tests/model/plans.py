@@ -16,6 +16,8 @@ from .table import Line, Route, destination, read_table, route_of
 MOST_FORWARDED = 65_535  # Captured bytes of a packet that is forwarded.
 MOST_SLOTS = MOST_CELLS = 131_072  # Of the arrivals of a port, of all cells at their outputs; half of it over 32 ports.
 MOST_DEPTH = 131_072
+# Of a long job: arrival slots, packets of all captures, cells at their outputs, and cells of a queue.
+LONG_SLOTS, LONG_PACKETS, LONG_CELLS, LONG_DEPTH = 1 << 31, 1 << 30, 1 << 30, 1 << 30
 MOST_PACE, MOST_RATE = 1_000_000, 1_600_000  # Microseconds of a slot, megabits a second of a line.
 CELL_BITS = 512
 OVERSIZE, UNROUTED, ROUTED = "oversize", "unrouted", "routed"
@@ -30,6 +32,7 @@ class Settings(NamedTuple):
     workers: int = 4
     pace: Optional[int] = None  # Microseconds of a slot.
     rate: Optional[int] = None  # Megabits a second of a line; at line pace where both are None.
+    is_long: bool = False
 
 
 class Planned(NamedTuple):
@@ -87,9 +90,31 @@ def slots_of(arrivals: Sequence[int]) -> int:
     return arrivals[-1] + 1 if arrivals else 0
 
 
-def most_for(ports: int, most: int) -> int:
-    """A limit for a switch of so many ports."""
-    return most // 2 if ports > 32 else most
+class Limits(NamedTuple):
+    """The most arrival slots of a port, packets of all captures, where these are limited, and cells at their outputs."""
+
+    slots: int
+    packets: Optional[int]
+    cells: int
+
+
+def limits_of(settings: Settings, ports: int) -> Limits:
+    """The limits of a job of so many ports."""
+    if settings.is_long:
+        return Limits(LONG_SLOTS, LONG_PACKETS, LONG_CELLS)
+    half = 2 if ports > 32 else 1
+    return Limits(MOST_SLOTS // half, None, MOST_CELLS // half)
+
+
+def not_over(limits: Limits, slots: Sequence[int], packets: int, cells: int) -> None:
+    """Refuses arrival slots of ports, packets or cells over the limits, in this order."""
+    for port, count in enumerate(slots):
+        if count > limits.slots:
+            raise Refusal(4, f"too many slots: port {port} has {count}")
+    if limits.packets is not None and packets > limits.packets:
+        raise Refusal(4, f"too many packets: {packets}")
+    if cells > limits.cells:
+        raise Refusal(4, f"too many cells: {cells}")
 
 
 def plan_files(settings: Settings, text: bytes, files: Sequence[bytes]) -> Plan:
@@ -114,21 +139,17 @@ def read_input(port: int, data: bytes) -> Capture:
 
 
 def plan(settings: Settings, lines: List[Line], read: Sequence[Capture]) -> Plan:
-    """The plan of a table and captures; or the refusal of too many slots or cells, raised."""
+    """The plan of a table and captures; or the refusal of too many slots, packets or cells, raised."""
     ports = len(read)
     base = min((packet.time() for capture in read for packet in capture.packets), default=0)
     arrivals = [arrivals_at(settings, capture, base) for capture in read]
-    for port, slots in enumerate(map(slots_of, arrivals)):
-        if slots > most_for(ports, MOST_SLOTS):
-            raise Refusal(4, f"too many slots: port {port} has {slots}")
+    slots = [slots_of(it) for it in arrivals]
     route = lru_cache(maxsize=None)(lambda address: route_of(lines, address))  # Many packets have the same address.
-    cards = [plan_card(route, capture, slots) for capture, slots in zip(read, arrivals)]
+    cards = [plan_card(route, capture, its) for capture, its in zip(read, arrivals)]
     cells = sum(planned.cells * len(planned.fan) for card in cards for planned in card)
-    if cells > most_for(ports, MOST_CELLS):
-        raise Refusal(4, f"too many cells: {cells}")
+    not_over(limits_of(settings, ports), slots, sum(map(len, cards)), cells)
     is_nano = any(capture.is_nano for capture in read)
-    most = max(map(slots_of, arrivals))
-    return Plan(ports, settings.rounds, settings.depth, is_nano, read[0].link, cards, most, cells)
+    return Plan(ports, settings.rounds, settings.depth, is_nano, read[0].link, cards, max(slots), cells)
 
 
 def arrivals_at(settings: Settings, capture: Capture, base: int) -> List[int]:

@@ -2,6 +2,7 @@
 
 from __future__ import annotations
 
+from collections import Counter
 from typing import List, NamedTuple
 
 from .runs import Run
@@ -29,12 +30,12 @@ class Tracks(NamedTuple):
 def arrivals_at(run: Run, output: int) -> List[int]:
     """For each slot the cells that come to an output of the ideal switch: all of an admitted packet in its arrival
     slot."""
-    comes = [0] * len(run.slots)
+    comes: Counter[int] = Counter()
     for card, admitted in zip(run.plan.cards, run.admitted):
         for number in admitted:
             if output in card[number].fan:
                 comes[card[number].arrival] += card[number].cells
-    return comes
+    return [comes[slot.number] for slot in run.slots]
 
 
 def tracks_of(run: Run, output: int) -> Tracks:
@@ -50,9 +51,9 @@ def tracks_of(run: Run, output: int) -> Tracks:
     return tracks
 
 
-def after_last_rise(track: List[int]) -> int:
+def after_last_rise(run: Run, track: List[int]) -> int:
     """One more than the last slot in which a count rose, 0 where it never did."""
-    rises = [slot for slot, (count, before) in enumerate(zip(track, [0, *track])) if count > before]
+    rises = [slot.number for slot, count, before in zip(run.slots, track, [0, *track]) if count > before]
     return rises[-1] + 1 if rises else 0
 
 
@@ -60,4 +61,4 @@ def reference_line(run: Run, output: int) -> ReferenceLine:
     """The comparison at an output."""
     _, ran, ideal = tracks_of(run, output)
     leads = [before - behind for before, behind in zip(ideal, ran)]
-    return ReferenceLine(after_last_rise(ideal), after_last_rise(ran), max(leads), sum(leads))
+    return ReferenceLine(after_last_rise(run, ideal), after_last_rise(run, ran), max(leads), sum(leads))

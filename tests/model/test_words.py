@@ -2,7 +2,7 @@
 
 import unittest
 
-from .plans import MOST_DEPTH, Settings
+from .plans import LONG_DEPTH, MOST_DEPTH, Settings
 from .schedulers import SCHEDULERS
 from .words import CheckJob, FirmJob, GenJob, RunJob, job_of
 
@@ -26,7 +26,9 @@ run --scheduler=firm,rrm t out a | run --schedulers firm t out a | run --queues 
 run --packets=a t out a | run --queue t out a | gen --queues 1 2 2 | gen --scheduler 1 2 2 | gen --scheduler=x 1 2 2
 gen --scheduler rrm --scheduler rrm 1 2 2 | check --packets f | check f --scheduler | check --scheduler f
 check --scheduler firm f g | firm --scheduler firm t a | firm --queues t a | run --alone= t p a | gen --alone 1 2 2
-run --rounds 65 t p a | run --long t p a
+run --rounds 65 t p a
+run --long=1 t p a | run --long --long t p a | run --long --slots t p a | run t p a --journal --long | gen --long 1 2 2
+check --long f | run --long --depth 1073741825 t p a | firm --depth 0 --long t a | firm --depth=131073 t a
 run --line-rate 1600001 t p a | run --line-rate=0 t p a | run --line-rate 10.5 t p a | run --line-rate t p a
 run --line-rate 7 --line-rate=7 t p a | run --line-rate 512 --pace-us 1 t p a | firm --pace-us=1 t a --line-rate=512
 run --pace-us 0 --line-rate 512 t p a | gen --line-rate 512 1 2 2 | check --line-rate 512 f | run --ethernet 10 t p a
@@ -51,6 +53,11 @@ class Words(unittest.TestCase):
         for rate in (1, 1_600_000):
             self.assertEqual(job(f"run --line-rate {rate} t p a").settings, Settings(rate=rate))
             self.assertEqual(job(f"firm t a --line-rate={rate}"), FirmJob(Settings(rate=rate), "t", ["a"]))
+
+    def test_long(self):
+        self.assertEqual(job("run --long t p a"), RunJob(Settings(depth=LONG_DEPTH, is_long=True), set(), "islip", "t", "p", ["a"]))
+        for words in ("firm t a --depth 131073 --long", "firm --long --depth=131073 t a"):
+            self.assertEqual(job(words), FirmJob(Settings(depth=131_073, is_long=True), "t", ["a"]))
 
     def test_flags(self):
         names = {"slots", "journal", "reference", "queues", "packets", "alone"}

@@ -34,7 +34,7 @@ def summary_of(outcome: Outcome) -> Summary:
     run, plan = outcome.run, outcome.run.plan
     what = [packet.what for card in plan.cards for packet in card]
     return Summary(
-        ports=plan.ports, rounds=plan.rounds, depth=plan.depth, slots=len(run.slots),
+        ports=plan.ports, rounds=plan.rounds, depth=plan.depth, slots=run.slots[-1].number + 1,
         packets=len(what), oversize=what.count(OVERSIZE), unrouted=what.count(UNROUTED),
         dropped=sum(map(len, run.dropped)), forwarded=sum(map(len, run.admitted)),
         copies=sum(map(len, outcome.delivered)), cells=sum(map(len, outcome.crossed)),
@@ -67,7 +67,7 @@ def slot_line(number: int, used: int, first: int, match: Match) -> str:
 
 def slot_lines(slots: Iterable[Slot]) -> List[str]:
     """The lines of the slots of a run."""
-    return [slot_line(number, slot.used, slot.first, slot.match) for number, slot in enumerate(slots)]
+    return [slot_line(slot.number, slot.used, slot.first, slot.match) for slot in slots]
 
 
 def queue_line_texts(lines: Dict[Place, QueueLine]) -> List[str]:

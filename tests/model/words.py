@@ -4,7 +4,7 @@ from __future__ import annotations
 
 from typing import Dict, List, NamedTuple, Optional, Sequence, Set, Tuple, Union
 
-from .plans import MOST_DEPTH, MOST_PACE, MOST_RATE, Settings
+from .plans import LONG_DEPTH, MOST_DEPTH, MOST_PACE, MOST_RATE, Settings
 from .schedulers import SCHEDULERS
 
 USAGE = (
@@ -25,9 +25,11 @@ OPTIONS: Dict[str, Tuple[str, ...]] = {
     "check": ("--scheduler",),
     "firm": ("--rounds", "--depth", "--pace-us", "--line-rate"),
 }
+LONG = "--long"
+SHORT_ONLY = {"--slots", "--journal"}  # Not of a long job.
 FLAGS: Dict[str, Tuple[str, ...]] = {
-    "run": ("--slots", "--journal", "--reference", "--queues", "--packets", "--alone"),
-    "gen": (), "check": (), "firm": (),
+    "run": ("--slots", "--journal", "--reference", "--queues", "--packets", "--alone", LONG),
+    "gen": (), "check": (), "firm": (LONG,),
 }
 MADE_RANGES = ((0, 1_000_000_000), (0, 4_000), (1, 64))  # Of a seed, a count and ports.
 
@@ -128,12 +130,15 @@ def next_value(rest: List[str]) -> str:
     return rest.pop(0)
 
 
-def settings_of(values: Dict[str, str]) -> Settings:
-    """The numbers that options give. A slot has its length from a pace or from a line rate, not from both."""
-    given = {FIELDS[name]: number_of(values[name], *RANGES[name]) for name in RANGES if name in values}
-    if "pace" in given and "rate" in given:
+def settings_of(values: Dict[str, str], flags: Set[str]) -> Settings:
+    """The numbers that options give. A slot has its length from a pace or from a line rate, not from both. A long job may
+    have deeper queues, and tells no slots."""
+    is_long = LONG in flags
+    ranges = {**RANGES, "--depth": (1, LONG_DEPTH)} if is_long else RANGES
+    given = {FIELDS[name]: number_of(values[name], *ranges[name]) for name in ranges if name in values}
+    if "pace" in given and "rate" in given or is_long and flags & SHORT_ONLY:
         raise Usage
-    return Settings(**given)
+    return Settings(**{"depth": LONG_DEPTH if is_long else MOST_DEPTH, **given}, is_long=is_long)
 
 
 def scheduler_of(values: Dict[str, str]) -> str:
@@ -149,9 +154,9 @@ def read_words(words: Sequence[str]) -> Job:
     if not words or words[0] not in OPTIONS:
         raise Usage
     names, values, flags = parts_of(words[0], words[1:])
-    settings, scheduler = settings_of(values), scheduler_of(values)
+    settings, scheduler = settings_of(values, flags), scheduler_of(values)
     if words[0] == "run" and 1 <= len(names) - 2 <= MOST_INPUTS:
-        return RunJob(settings, {flag[2:] for flag in flags}, scheduler, names[0], names[1], names[2:])
+        return RunJob(settings, {flag[2:] for flag in flags - {LONG}}, scheduler, names[0], names[1], names[2:])
     if words[0] == "gen" and len(names) == 3:
         seed, packets, ports = (number_of(name, *limits) for name, limits in zip(names, MADE_RANGES))
         return GenJob(settings, scheduler, seed, packets, ports)

@@ -33,7 +33,8 @@ def settings_text(settings: Settings) -> str:
     """The numbers that a job is given; of pace and line rate the one that it has."""
     pace = forms.NONE if settings.pace is None else settings.pace
     speed = f"pace={pace}" if settings.rate is None else f"rate={settings.rate}"
-    return f"rounds={settings.rounds} depth={settings.depth} workers={settings.workers} {speed}"
+    long = " long=1" if settings.is_long else ""
+    return f"rounds={settings.rounds} depth={settings.depth} workers={settings.workers} {speed}{long}"
 
 
 def flags_text(job: RunJob) -> str:
@@ -150,7 +151,7 @@ class JournalRows(ScheduledRows):
 
 
 REMAKES = {
-    **dict.fromkeys(("words", "measure_words", "line_rate_words", "scheduler_words"), by_lines(WordRows)),
+    **dict.fromkeys(("words", "measure_words", "line_rate_words", "scheduler_words", "long_words"), by_lines(WordRows)),
     "texts": by_lines(TextRows),
     **dict.fromkeys(("journals", "journals_by_scheduler"), by_lines(JournalRows)),
 }
