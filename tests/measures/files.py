@@ -157,6 +157,25 @@ class Packets(unittest.TestCase):
         overtaken, _ = packets_of_job("packets_levels_overtake")
         self.assertEqual(delay_counts(overtaken), {(0, "u"): Counter([1]), (2, "u"): Counter([6, 7])})
 
+    def test_pieces(self):
+        """A file in pieces of any size has the same rows, those of a packet in one piece, and the same counts."""
+        import pandas
+
+        from measure.packets import counts_of, packet_pieces
+
+        for name in ("packets_multicast_departs_twice", "packets_none", "packets_of_all_states", "random_queues_and_packets_0"):
+            path = JOBS / name / "expected/out.packets.csv"
+            whole, _ = packets_of_job(name)
+            for rows in (1, 2, 7, 1_000_000):
+                pieces = list(packet_pieces(path, rows))
+                self.assertTrue(pandas.concat(pieces, ignore_index=True).equals(whole), (name, rows))
+                ends = [(piece.iloc[place]["input"], piece.iloc[place]["packet"]) for piece in pieces if len(piece) for place in (0, -1)]
+                self.assertEqual([pair for pair in zip(ends[1::2], ends[2::2]) if pair[0] == pair[1]], [])
+                self.assertEqual(vars(counts_of(pieces)), vars(counts_of([whole])))
+        for text, fault in (("a,b\n1,2\n", "no packets file: "), (PACKETS.replace("forwarded", "gone"), "a state is none of")):
+            with self.assertRaisesRegex(ValueError, fault):
+                list(packet_pieces(io.StringIO(text), 1))
+
     def test_result_of_a_run(self):
         """Of 17 packets one is dropped; those that come in slots 4 to 14 are measured. The file of another run is refused."""
         words = ["--kind", "trace", "--load", "0.5", "--seed", "1"]

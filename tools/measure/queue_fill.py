@@ -12,6 +12,7 @@ import numpy
 
 from .packets import Misfit
 
+MOST_SLOTS = 20_000_000
 
 class Fill(NamedTuple):
     """What was in a queue in each slot: packets, cells where these are known; and the slots that dropped packets."""
@@ -27,6 +28,8 @@ def fill_of(packets, report, name):
     if not len(came):
         raise ValueError(f"no packet came to the queue {name}")
     slots = report.summary["slots"]
+    if slots > MOST_SLOTS:
+        raise ValueError(f"the run has {slots:,} slots, and a queue is drawn over at most {MOST_SLOTS:,}")
     dropped = came[came["state"] == "dropped"].drop_duplicates("packet")["arrival"].tolist()
     waiting = came[came["state"] == "forwarded"]
     cells = None if report.slots is None else cells_waiting(waiting, report, name)
