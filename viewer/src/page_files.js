@@ -2,7 +2,7 @@
 (function (viewer) {
     "use strict";
 
-    const { element, plural } = viewer;
+    const { element, plural, MAX_LISTED_SLOTS } = viewer;
 
     Object.assign(viewer.Page.prototype, {
         /** Shows files, or says why they cannot be shown; what was shown before then stays. */
@@ -193,6 +193,9 @@
     /** What has to be said of the runs that are shown, or null. */
     function noticeOf(panes) {
         const bare = panes.find((pane) => pane.isOpen && !pane.hasSlots);
+        if (bare !== undefined && bare.run.slots > MAX_LISTED_SLOTS) {
+            return `${bare.name} is of a long run, which has no slots to step through.`;
+        }
         if (bare !== undefined) {
             return `${bare.name} has no slot lines, so there is no slot to see: write them with tiny_tera run --slots.`;
         }

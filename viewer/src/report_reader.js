@@ -9,8 +9,9 @@
     const DIGIT_ZERO = 48;
     const SLOTS_A_STEP = 256;
     const MAX_ROUNDS = 64;
-    /** No run has more slots. */
-    const MAX_SLOTS = 262145;
+    /** No run has more slots, and none whose slots have lines has more than these. */
+    const MAX_SLOTS = 2 ** 32 - 1;
+    const MAX_LISTED_SLOTS = 262145;
 
     /** The lines of a summary that have one number, in order. */
     const SUMMARY_LINES = [
@@ -225,6 +226,9 @@
         const { queues, deepest } = readQueueLines(cursor, ports);
         const run = { form: "report", ports, rounds, slots, summary, outputs, queues, deepest, matches: null, reference: [] };
         if (startsWith(cursor, "s")) {
+            if (slots > MAX_LISTED_SLOTS) {
+                throw new FileFault(`line ${cursor.line}: a run of ${slots} slots has no slot lines`);
+            }
             run.matches = new Matches(ports, slots);
             run.used = new Uint8Array(slots);
             run.first = new Uint8Array(slots);
@@ -244,5 +248,5 @@
         return run;
     }
 
-    viewer.readReport = readReport;
+    Object.assign(viewer, { readReport, MAX_LISTED_SLOTS });
 })(globalThis.SlotViewer = globalThis.SlotViewer || {});

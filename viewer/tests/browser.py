@@ -79,7 +79,7 @@ class Viewer:
         self.wait_read(given)
 
     def wait_read(self, what):
-        self.wait("document.getElementById('notice').hidden || document.getElementById('notice').innerText.match(/no slot lines|not compared/)", what)
+        self.wait("document.getElementById('notice').hidden || document.getElementById('notice').innerText.match(/no slot lines|no slots|not compared/)", what)
 
     def open_bytes(self, name, data, field="file"):
         file = self.folder / name

@@ -95,6 +95,13 @@ def test_report(viewer):
     viewer.open_bytes("bare.report", bare)
     expect("no slot lines" in viewer.text("notice") and not viewer.is_shown("crossbar"), "a report without slot lines")
     expect(["cells", "8"] in viewer.table("Summary"), "its summary")
+    queues = b"queue 0>0:0u packets 3 dropped 0 cells 8 peak 2 slot 4294967294\ndeepest 2\n"
+    long = bare.replace(b"\nslots 11\n", b"\nslots 4294967295\n") + queues + files.reference_lines()
+    viewer.open_bytes("long.report", long)
+    expect("a long run, which has no slots to step through" in viewer.text("notice"), "a report of a long run")
+    expect(["slots", "4294967295"] in viewer.table("Summary") and not viewer.is_shown("crossbar"), "its summary")
+    expect("4294967294" in str(viewer.table("Queues")), f"its queues: {viewer.table('Queues')}")
+    expect(viewer.table("Output-queued reference") == lines, "its reference")
 
 
 def test_journal(viewer):
@@ -122,7 +129,7 @@ def test_journal(viewer):
 
 
 def test_examples(viewer):
-    """Each report and journal of the examples opens, and a report's slots are those of its lines."""
+    """Each report and journal of the examples opens, and a report's slots are those of its lines; a long run has none."""
     outputs = sorted(ROOT.glob("examples/*/expected/*.report")) + sorted(ROOT.glob("examples/*/expected/*.journal"))
     for file in outputs:
         viewer.load()
@@ -134,13 +141,18 @@ def test_examples(viewer):
             expect("The journal is lawful" in viewer.text("summary"), f"{file}: {viewer.text('summary')}")
         else:
             lines = [line for line in file.read_text().splitlines() if line.startswith("slot ")]
-            expect(viewer.run(SLOT_LINES) == lines, f"{file}: the slots are not those of the lines")
+            found = viewer.run(SLOT_LINES)
+            expect(found == lines, f"{file}: the slots are not those of the lines")
+            expect(lines or "no slots to step through" in viewer.text("notice"), f"{file}: {viewer.text('notice')}")
         viewer.shoot(f"example_{file.parts[-3]}_{file.name.replace('.', '_')}")
     return f"{len(outputs)} files"
 
 
 SLOT_LINES = """
 const run = SlotViewer.page.run;
+if (run.matches === null) {
+    return [];
+}
 return Array.from({ length: run.slots }, (_, slot) => {
     const pairs = run.matches.pairs(slot).map(({ input, output, level, kind }) => ` ${input}>${output}:${level}${"um"[kind]}`);
     return `slot ${slot} used ${run.used[slot]} first ${run.first[slot]}${pairs.join("")}`;
