@@ -11,7 +11,7 @@ use Rattle.service_bound.specs.MeterSteps.{Queues, wait_at, longest_of, longest_
 use Rattle.service_bound.proofs.Greatest.{greatest-within, greatest-has}
 
 -- the test of a member, both ways
-member-true : (ports x : ℕ) → Has ports x → eqb (bit_at ports x) 1 ≡ true
+pub member-true : (ports x : ℕ) → Has ports x → eqb (bit_at ports x) 1 ≡ true
 member-true ports x has = elim (eqb_tells (bit_at ports x) 1) [ inl p ↦ p.0 | inr p ↦ absurd (p.1 has) ]
 
 pub member-false : (ports x : ℕ) → (Has ports x → ⊥) → eqb (bit_at ports x) 1 ≡ false

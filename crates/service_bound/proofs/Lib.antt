@@ -44,3 +44,4 @@ mod Levels
 mod Noting
 mod Skipping
 mod PartsServed
+mod News

@@ -18,7 +18,7 @@ use Rattle.service_bound.proofs.Waiting.{Decides-waiting}
 
 -- ---- the waits of one queue
 -- its wait in the last slot, where it was `before` before the first
-wait_from : ℕ → List NotedSlot → ℕ → ℕ → ℕ → ℕ
+unfoldable pub wait_from : ℕ → List NotedSlot → ℕ → ℕ → ℕ → ℕ
 wait_from before [] i j level = before
 wait_from before (slot ∷ slots) i j level = wait_from (wait_in slot before i j level) slots i j level
 
@@ -28,7 +28,7 @@ unfolding wait_from
 wait_from-last before slot [] i j level = refl
 wait_from-last before slot (next ∷ slots) i j level = wait_from-last (wait_in slot before i j level) next slots i j level
 
-wait_after-from : (slots : List NotedSlot) (i j level : ℕ) → wait_after slots i j level ≡ wait_from 0 slots i j level
+pub wait_after-from : (slots : List NotedSlot) (i j level : ℕ) → wait_after slots i j level ≡ wait_from 0 slots i j level
 unfolding wait_from
 wait_after-from [] i j level = refl
 wait_after-from (slot ∷ slots) i j level = let e : length (slot ∷ slots) - 1 ≡ length slots = omega arith in rw e (wait_from-last 0 slot slots i j level)
@@ -122,8 +122,9 @@ AreBegun-noted meter slots noted place inside =
     let queues = noted.queues (place / 4) (place % 4) (omega arith) (omega arith) in
     subst (λ p. AreBegun meter.count (queues_at meter.queues p)) here (record { long = queues.long; begun = rw noted.count queues.begun })
 
-pub HasNoted-first : (n : ℕ) → n ≤ MAX_PORTS → HasNoted (record { ports = n; count = 0; queues = replicate (LEVELS * n) queues_at_first }) []
-HasNoted-first n size = record {
+pub HasNoted-first : (n : ℕ) → 0 < n → n ≤ MAX_PORTS → HasNoted (record { ports = n; count = 0; queues = replicate (LEVELS * n) queues_at_first }) []
+HasNoted-first n some size = record {
+  some = some;
   size = size;
   count = refl;
   long = length-replicate {A = Queues} (LEVELS * n) queues_at_first;
@@ -141,6 +142,7 @@ HasNoted-within old new slots slot ports count long notes within noted =
     let old_count = noted.count in
     let old_long = noted.long in
     record {
+      some = let some = noted.some in omega arith;
       size = let size = noted.size in omega arith;
       count = omega (arith, length-append slots (slot ∷ []));
       long = omega arith;

@@ -51,6 +51,7 @@ more_rest : (meter : Meter) (slots more : List NotedSlot)
     → ((k : ℕ) (d : NotedSlot) → k < length more → NoneWaits (get_or more k d)) → HasNoted meter slots
     → HasNoted (at_count meter (meter.count + length more)) (slots ++ more)
 more_rest meter slots [] rest none noted = record {
+  some = noted.some;
   size = noted.size;
   count = omega (arith, noted.count, ap length (append-nil slots));
   long = noted.long;

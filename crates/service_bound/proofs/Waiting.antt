@@ -1,5 +1,5 @@
 -- A queue waits in a slot exactly where the row names the output and the match does not serve it.
-use Rattle.std.proofs.Common.{◌≡◌, ℕ, ◌+◌, ◌↔◌, ◌⊎◌, ◌==◌, not, Bool, true, false, if◌then◌else◌, List, Option, None, Some, refl, sym, ap, inl, inr}
+use Rattle.std.proofs.Common.{◌≡◌, ℕ, ◌+◌, ◌↔◌, ◌⊎◌, ◌==◌, ◌++◌, not, Bool, true, false, if◌then◌else◌, List, [], ◌∷◌, Option, None, Some, refl, sym, ap, inl, inr}
 use Rattle.std.specs.Prelude.{IsNone, IfSome}
 use Rattle.std.specs.Bool.{Decides}
 use Rattle.std.specs.Int.{bit_at}
@@ -17,6 +17,7 @@ use Rattle.slot_match.proofs.Pairs.{Serves-along}
 use Rattle.eslip_rounds.specs.Decisions.{is_named, is_fed}
 use Rattle.eslip_rounds.proofs.Testing.{Decides-named, Decides-fed}
 use Rattle.service_bound.specs.Waits.{NotedSlot, is_waiting, wait_in}
+use Rattle.service_bound.specs.MeterSteps.{was_waiting}
 
 pub Decides-waiting : (slot : NotedSlot) (i j level : ℕ)
     → Decides (is_waiting slot i j level) (Names (row_of slot.rows i) level Uni j × (Serves slot.matched i j level Uni → ⊥))
@@ -35,6 +36,12 @@ wait_in-or slot before i j level = go (is_waiting slot i j level) refl where
       ⊎ (wait_in slot before i j level ≡ 0)
   go true e = let waits = (Decides-waiting slot i j level).0 e in inl (waits.0, waits.1, ap (λ b. if b then before + 1 else 0) e)
   go false e = inr (ap (λ b. if b then before + 1 else 0) e)
+
+-- the last of some slots and one more is that one
+pub was_waiting-more : (slots : List NotedSlot) (slot : NotedSlot) (i j level : ℕ) → was_waiting (slots ++ slot ∷ []) i j level ≡ is_waiting slot i j level
+was_waiting-more [] slot i j level = refl
+was_waiting-more (first ∷ []) slot i j level = refl
+was_waiting-more (first ∷ next ∷ slots) slot i j level = was_waiting-more (next ∷ slots) slot i j level
 
 -- an input's part gives what the match serves
 pub Gives-iff_serves : (matched : List (Option Fed)) (i j level : ℕ) (kind : Kind) (part : Option Served) → IsNone part ↔ IsFreeInput matched i

@@ -1,10 +1,15 @@
 -- Meters: what a meter of waits keeps of the slots that it has noted.
-use Rattle.std.specs.Prelude.{◌≡◌, ℕ, ◌+◌, ◌-◌, ◌*◌, ◌<◌, ◌≤◌, ◌==◌, Bool, true, max, if◌then◌else◌, List, length, map, replicate, slice_index, slice_index_or}
+use Rattle.std.specs.Prelude.{◌≡◌, ℕ, ◌+◌, ◌-◌, ◌*◌, ◌<◌, ◌≤◌, ◌==◌, Bool, true, false, max, if◌then◌else◌, List, [], ◌∷◌, Option, None}
+use Rattle.std.specs.Prelude.{length, map, replicate, slice_index, slice_index_or}
 use Rattle.std.specs.List.{flat_map, range_with_len}
 use Rattle.std.specs.Int.{bit_at}
 use Rattle.rotating_pick.specs.PortSets.{Has}
 use Rattle.rotating_pick.specs.declared.limits.TheConstants.{LEVELS, MAX_PORTS}
-use Rattle.service_bound.specs.Waits.{NotedSlot, waits_from, greatest}
+use Rattle.slot_match.specs.declared.matching.Fed.{Fed}
+use Rattle.slot_match.specs.declared.matching.Served.{Served}
+use Rattle.slot_match.specs.Matches.{IsMatch}
+use Rattle.slot_match.specs.Parts.{served_of}
+use Rattle.service_bound.specs.Waits.{NotedSlot, is_waiting, waits_from, greatest}
 
 -- what is kept of the queues of one input at a level: the outputs whose queue waits, for each output the
 -- slot in which its queue began to wait, and the longest wait that has ended
@@ -44,9 +49,9 @@ longest_of began outputs count =
 abbrev pub longest_at : Queues → ℕ → ℕ
 longest_at queues count = max queues.ended (longest_of queues.began queues.waiting count)
 
--- these outputs are some of the queues', whose waits began in the first `count` slots or begin with the next
+-- these outputs are some of the queues', whose waits began in the first `count` slots
 abbrev pub HaveBegun : List ℕ → ℕ → ℕ → Type 0
-HaveBegun began outputs count = (j : ℕ) → Has outputs j → (j < length began) × (slice_index began j ≤ count)
+HaveBegun began outputs count = (j : ℕ) → Has outputs j → (j < length began) × (slice_index began j < count)
 
 -- the queues after `count` slots
 pub record AreBegun (count : ℕ) (queues : Queues) : Type 0 where
@@ -76,7 +81,23 @@ pub record HaveNoted (n : ℕ) (slots : List NotedSlot) (i level : ℕ) (queues 
 
 -- the meter has noted these slots
 pub record HasNoted (meter : Meter) (slots : List NotedSlot) : Type 0 where
+  pub some : 0 < meter.ports
   pub size : meter.ports ≤ MAX_PORTS
   pub count : meter.count ≡ length slots
   pub long : length meter.queues ≡ LEVELS * meter.ports
   pub queues : (i level : ℕ) → i < meter.ports → level < LEVELS → HaveNoted meter.ports slots i level (queues_at meter.queues (place_of i level))
+
+-- these are the parts of the n inputs in the match
+pub record HasParts (n : ℕ) (matched : List (Option Fed)) (parts : List (Option Served)) : Type 0 where
+  pub whole : IsMatch n matched
+  pub each : (i : ℕ) → i < n → slice_index_or parts i None ≡ served_of matched i
+
+-- whether the queue waited in the last of these slots; before the first it did not
+abbrev pub was_waiting : List NotedSlot → ℕ → ℕ → ℕ → Bool
+was_waiting [] i j level = false
+was_waiting (slot ∷ []) i j level = is_waiting slot i j level
+was_waiting (slot ∷ next ∷ slots) i j level = was_waiting (next ∷ slots) i j level
+
+-- the queues of the n inputs that are not members of `news` wait in the slot as in the last of those before
+abbrev pub WaitsAreKept : ℕ → ℕ → List NotedSlot → NotedSlot → Type 0
+WaitsAreKept n news slots slot = (i j level : ℕ) → i < n → level < LEVELS → (Has news i → ⊥) → is_waiting slot i j level ≡ was_waiting slots i j level

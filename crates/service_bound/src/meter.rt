@@ -1,16 +1,20 @@
-ghost use Rattle.std.specs.Prelude.{◌≡◌, ℕ, ◌+◌, ◌*◌, ◌/◌, ◌%◌, ◌<◌, ◌≤◌, ◌≢◌, ◌↔◌, false, List, [], ◌∷◌, ◌++◌, length, replicate, All, IfOk};
+ghost use Rattle.std.specs.Prelude.{◌≡◌, ℕ, ◌+◌, ◌*◌, ◌/◌, ◌%◌, ◌<◌, ◌≤◌, ◌≢◌, ◌↔◌, false, List, [], ◌∷◌, ◌++◌, length, replicate, All, Option, IfOk};
 ghost use Rattle.rotating_pick.specs.PortSets.{Has};
 ghost use Rattle.rotating_pick.specs.declared.kinds.Kind.TheVariants.{Uni};
+ghost use Rattle.slot_match.specs.declared.matching.Fed.{Fed};
 ghost use Rattle.slot_match.specs.Rows.{Names, AreWithin};
+ghost use Rattle.slot_match.specs.Matches.{IsMatch};
 ghost use Rattle.slot_match.specs.Keeping.{Gives};
 ghost use Rattle.slot_match.specs.Parts.{served_of};
 ghost use Rattle.service_bound.specs.Waits.{NotedSlot, NoneWaits, is_waiting, longest_wait};
 ghost use Rattle.service_bound.specs.MeterSteps.{queues_at_first, place_of, queues_at, AreBegun, NotesSlot, HasNoted};
+ghost use Rattle.service_bound.specs.MeterSteps.{HasParts, WaitsAreKept};
 
 use crate::level_queues::LevelQueues;
 use crate::limits::MAX_NOTED;
 use rotating_pick::{
-    Kind, LEVEL_COUNT, LEVELS, MAX_PORTS, OutOfMemory, PORT_COUNT, Ports, difference,
+    Kind, LEVEL_COUNT, LEVELS, MAX_PORTS, OutOfMemory, PORT_COUNT, Ports, all, difference,
+    intersection, lowest, without,
 };
 use slot_match::{Match, Row, Served};
 use std::alloc::{AllocError, Global};
@@ -19,8 +23,8 @@ use std::marker::Model;
 /// A meter of waits. It is told of slot after slot and keeps for each level the longest wait: for how
 /// many slots, one after the other, a unicast queue of the level was posted and not served.
 ///
-/// A slot costs a look at each input's part of the match, a comparison for each level, and a step for
-/// each queue whose wait begins or ends in it.
+/// A slot costs a look at the part of the match of each input with news, a comparison for each of its levels, and a
+/// step for each of its queues whose wait begins or ends.
 #[derive(Drop)]
 pub struct WaitMeter {
     ports: u32,
@@ -83,7 +87,27 @@ impl WaitMeter {
         ensures ports { self.new.ports ≡ self.old.ports }
         ensures count { self.new.count ≡ self.old.count + 1 }
     {
-        note_slot(&mut self.queues, self.count, rows, matched);
+        // Tells the proof that the meter has noted some slots.
+        self.noted_slots();
+        let mut parts = [None; PORT_COUNT];
+        matched.put_parts(&mut parts);
+        self.note_news(rows, &parts, all(matched.ports()));
+    }
+
+    /// Notes one slot more, as `note` does, where only the queues of the inputs `news` can wait otherwise than in the slot
+    /// before; before the first slot none waits. `parts` has the inputs' parts of the match. It looks at no other input.
+    pub fn note_news(&mut self, rows: &[Row], parts: &[Option<Served>; PORT_COUNT], news: Ports)
+        requires rows { AreWithin self.old.ports rows.now }
+        requires few { self.old.count < MAX_NOTED }
+        requires kept { (slots : List NotedSlot) × (matched : List (Option Fed)) × HasNoted self.old slots × HasParts self.old.ports matched parts.now
+            × WaitsAreKept self.old.ports news slots (record { rows = rows.now; matched = matched }) }
+        ensures noted { (slots : List NotedSlot) (matched : List (Option Fed)) → HasNoted self.old slots → HasParts self.old.ports matched parts.now
+            → HasNoted self.new (slots ++ record { rows = rows.now; matched = matched } ∷ []) }
+        ensures ports { self.new.ports ≡ self.old.ports }
+        ensures count { self.new.count ≡ self.old.count + 1 }
+    {
+        let inputs = intersection(news, all(self.ports));
+        note_inputs(&mut self.queues, self.count, rows, parts, inputs);
         self.count += 1;
     }
 
@@ -138,22 +162,31 @@ fn note_none(queues: &mut Vec<LevelQueues>, count: u32)
     }
 }
 
-// The queues of each input and level note slot `count`.
-fn note_slot(queues: &mut Vec<LevelQueues>, count: u32, rows: &[Row], matched: &Match)
-    requires rows { AreWithin (length matched.now) rows.now }
+// The queues of these inputs note slot `count`, level by level.
+fn note_inputs(
+    queues: &mut Vec<LevelQueues>,
+    count: u32,
+    rows: &[Row],
+    parts: &[Option<Served>; PORT_COUNT],
+    inputs: Ports,
+)
+    requires rows { AreWithin (length rows.now) rows.now }
     requires size { length rows.now ≤ MAX_PORTS }
     requires long { length queues.old.items ≡ LEVELS * length rows.now }
     requires few { count < MAX_NOTED }
+    requires inputs { (i : ℕ) → Has inputs i → i < length rows.now }
     requires begun { (place : ℕ) → place < length queues.old.items → AreBegun count (queues_at queues.old.items place) }
     ensures long { length queues.new.items ≡ length queues.old.items }
-    ensures noted { (place : ℕ) → place < length queues.old.items
-        → NotesSlot count (λ j. is_waiting (record { rows = rows.now; matched = matched.now }) (place / LEVELS) j (place % LEVELS))
+    ensures noted { (matched : List (Option Fed)) → HasParts (length rows.now) matched parts.now → (place : ℕ) → Has inputs (place / LEVELS)
+        → NotesSlot count (λ j. is_waiting (record { rows = rows.now; matched = matched }) (place / LEVELS) j (place % LEVELS))
         (queues_at queues.old.items place) (queues_at queues.new.items place) }
+    ensures others { (place : ℕ) → (Has inputs (place / LEVELS) → ⊥) → queues_at queues.new.items place ≡ queues_at queues.old.items place }
 {
-    let mut parts = [None; PORT_COUNT];
-    matched.put_parts(&mut parts);
-    for input in 0..rows.len() {
-        note_input(queues, count, rows, matched, parts[input], input);
+    let mut left = inputs;
+    while let Some(input) = lowest(left) {
+        let served = parts[input as usize];
+        note_input(queues, count, rows, served, input as usize);
+        left = without(left, input);
     }
 }
 
@@ -162,25 +195,22 @@ fn note_input(
     queues: &mut Vec<LevelQueues>,
     count: u32,
     rows: &[Row],
-    matched: &Match,
     served: Option<Served>,
     input: usize,
 )
-    requires rows { AreWithin (length matched.now) rows.now }
+    requires rows { AreWithin (length rows.now) rows.now }
     requires size { length rows.now ≤ MAX_PORTS }
     requires long { length queues.old.items ≡ LEVELS * length rows.now }
     requires few { count < MAX_NOTED }
     requires input { input < length rows.now }
-    requires served { served ≡ served_of matched.now input }
     requires begun { (place : ℕ) → place / LEVELS ≡ input → AreBegun count (queues_at queues.old.items place) }
     ensures long { length queues.new.items ≡ length queues.old.items }
-    ensures noted { (place : ℕ) → place / LEVELS ≡ input
-        → NotesSlot count (λ j. is_waiting (record { rows = rows.now; matched = matched.now }) (place / LEVELS) j (place % LEVELS))
+    ensures noted { (matched : List (Option Fed)) → IsMatch (length rows.now) matched → served ≡ served_of matched input → (place : ℕ)
+        → place / LEVELS ≡ input
+        → NotesSlot count (λ j. is_waiting (record { rows = rows.now; matched = matched }) (place / LEVELS) j (place % LEVELS))
         (queues_at queues.old.items place) (queues_at queues.new.items place) }
     ensures others { (place : ℕ) → place / LEVELS ≢ input → queues_at queues.new.items place ≡ queues_at queues.old.items place }
 {
-    // Tells the proof what the type of a match says of its value.
-    let _ = matched.ports();
     for level in 0..LEVEL_COUNT {
         let outputs = outputs_waiting(&rows[input], served, level);
         queues[input * LEVEL_COUNT + level].note(count, outputs);

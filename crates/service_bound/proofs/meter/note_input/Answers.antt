@@ -1,8 +1,10 @@
-use Rattle.std.proofs.Common.{◌≡◌, ◌∙◌, ℕ, ◌+◌, ◌*◌, ◌/◌, ◌%◌, ◌<◌, ◌==◌, ◌↔◌, length, ap, subst, arith, length-set}
+use Rattle.std.proofs.Common.{◌≡◌, ◌∙◌, ℕ, ◌+◌, ◌*◌, ◌/◌, ◌%◌, ◌<◌, ◌==◌, ◌↔◌, List, Option, length, ap, subst, arith, length-set}
 use Rattle.std.specs.Int.{bit_at}
 use Rattle.rotating_pick.specs.declared.kinds.Kind.TheVariants.{Uni}
 use Rattle.rotating_pick.specs.declared.limits.TheConstants.{LEVELS, MAX_PORTS}
-use Rattle.slot_match.specs.Matches.{Serves}
+use Rattle.slot_match.specs.declared.matching.Fed.{Fed}
+use Rattle.slot_match.specs.Matches.{Serves, IsMatch}
+use Rattle.slot_match.specs.Parts.{served_of}
 use Rattle.slot_match.specs.Keeping.{Gives}
 use Rattle.service_bound.specs.Waits.{NotedSlot, is_waiting}
 use Rattle.service_bound.specs.MeterSteps.{Queues, queues_at, NotesSlot}
@@ -20,9 +22,7 @@ note-requires-clause-among c = λ j has.
     let inside : place < length now = omega arith in
     let found = found_is now place c.index_mut.result.now inside c.index_mut.ensures.value ∙ inv.left place (omega arith) in
     let long : length c.index_mut.result.now.began ≡ MAX_PORTS = ap (λ (q : Queues). length q.began) found ∙ (c.requires.begun place (omega arith)).long in
-    let count = c.requires.rows.count in
-    let input_in : c.args.input < length c.args.matched.now = omega arith in
-    let below : j < length c.args.matched.now = c.requires.rows.ports c.args.input input_in level j Uni ((c.outputs_waiting-outputs.ensures j).0 has).0 in
+    let below = c.requires.rows.ports c.args.input c.requires.input level j Uni ((c.outputs_waiting-outputs.ensures j).0 has).0 in
     omega (arith, long, below)
 
 pub loop-level-preserved : goal.loop-level-preserved
@@ -35,27 +35,31 @@ loop-level-preserved c =
     let new = c.note.new.self in
     let inv = c.loop-level.invariant in
     let rows = c.args.rows.now in
-    let matched = c.args.matched.now in
-    let slot : NotedSlot = record { rows = rows; matched = matched } in
     let inside : place < length now = omega arith in
     let found = found_is now place c.index_mut.result.now inside c.index_mut.ensures.value ∙ inv.left place (omega arith) in
-    let whole = c.ports.ensures.whole in
+    let row : input ≡ place / LEVELS = omega arith in
+    let column : level ≡ place % LEVELS = omega arith in
+    let Notes : List (Option Fed) → ℕ → Queues → Queues → Type 0 =
+    λ matched k. NotesSlot c.args.count (λ j. is_waiting (record { rows = rows; matched = matched }) (k / LEVELS) j (k % LEVELS)) in
+    let here : (matched : List (Option Fed)) → IsMatch (length rows) matched → c.args.served ≡ served_of matched input
+    → Notes matched place (queues_at old place) new = λ matched whole served.
+    let slot : NotedSlot = record { rows = rows; matched = matched } in
     let gives : (j : ℕ) → Gives c.args.served j level Uni ↔ Serves matched input j level Uni =
-    λ j. Gives-iff_serves matched input j level Uni c.args.served (part_is_free c.ports.result matched input c.args.served whole c.requires.served)
-    (part_serves c.ports.result matched input c.args.served whole c.requires.served) in
+    λ j. Gives-iff_serves matched input j level Uni c.args.served (part_is_free (length rows) matched input c.args.served whole served)
+    (part_serves (length rows) matched input c.args.served whole served) in
     let waits : (j : ℕ) → (bit_at c.outputs_waiting-outputs.result j == 1) ≡ is_waiting slot input j level =
     λ j. member-waits rows matched input j level c.outputs_waiting-outputs.result (Gives c.args.served j level Uni) (c.outputs_waiting-outputs.ensures j)
     (gives j) in
-    let row : input ≡ place / LEVELS = omega arith in
-    let column : level ≡ place % LEVELS = omega arith in
     let there : (j : ℕ) → (bit_at c.outputs_waiting-outputs.result j == 1) ≡ is_waiting slot (place / LEVELS) j (place % LEVELS) = λ j. waits j
     ∙ ap (λ r. is_waiting slot r j level) row ∙ ap (λ l. is_waiting slot (place / LEVELS) j l) column in
-    let P : ℕ → Queues → Queues → Type 0 = λ k. NotesSlot c.args.count (λ j. is_waiting slot (k / LEVELS) j (k % LEVELS)) in
-    let here : P place (queues_at old place) new =
-    subst (λ q. P place q new) found (NotesSlot-along c.args.count _ _ c.index_mut.result.now new there c.note.ensures) in
+    subst (λ q. Notes matched place q new) found (NotesSlot-along c.args.count _ _ c.index_mut.result.now new there c.note.ensures) in
     record {
       long = length-set now place new ∙ inv.long;
       before = λ k below. left-set now place new k (λ e. omega arith) ∙ inv.before k below;
-      noted = λ k above below. noted-set P old now place new inside here k (λ other. inv.noted k above (omega arith));
+      noted = λ matched whole served k above below. noted-set (Notes matched) old now place new inside (here matched whole served) k
+          (λ other. inv.noted matched whole served k above (omega arith));
       left = λ k above. left-set now place new k (λ e. omega arith) ∙ inv.left k (omega arith);
     }
+
+pub returns-clause-noted : goal.returns-clause-noted
+returns-clause-noted c = λ matched whole served place here. c.loop-level.invariant.noted matched whole served place (omega arith) (omega arith)
