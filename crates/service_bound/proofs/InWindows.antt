@@ -9,7 +9,7 @@ use Rattle.slot_match.specs.Matches.{Serves}
 use Rattle.pointer_state.specs.Places.{Places, ArePointing}
 use Rattle.eslip_rounds.specs.Slots.{Moving, AreMoved, IsSlotBy}
 use Rattle.eslip_rounds.specs.Schedules.{DecidedSlot}
-use Rattle.service_bound.specs.Windows.{IsClean, InFirst, IsWindowBy, IsWindow}
+use Rattle.service_bound.specs.Windows.{IsClean, InFirst, IsKeptScheduleBy, IsWindowBy, IsWindow}
 use Rattle.service_bound.proofs.LaterRounds.{first_of, length-first_of}
 use Rattle.service_bound.proofs.PointersAfter.{ArePointing-after}
 
@@ -34,6 +34,12 @@ AreMoved-keep n level t rows first matched before after size within pointing mov
     ArePointing-after n level rows before within pointing t (let here = pointing.shared in omega arith) first matched size after moved
 
 module _ (Moves : Moving) where
+  -- one slot of a schedule of rows that are kept
+  pub record IsKeptSlotBy (n rounds t level : ℕ) (places : Places) (slot : DecidedSlot) : Type 0 where
+    pub pointing : ArePointing n level places
+    pub decided : IsSlotBy Moves n rounds t slot.rows places slot.decision
+    pub within : AreWithin n slot.rows
+
   -- one slot of a window
   pub record IsWindowSlotBy (n rounds t level : ℕ) (places : Places) (slot : DecidedSlot) : Type 0 where
     pub pointing : ArePointing n level places
@@ -48,6 +54,25 @@ module _ (Moves : Moving) where
     pointing_by keep pointing within decided =
         keep t slot.rows (first_of n decided.steps) slot.decision.matched places slot.decision.places
         (length-first_of n t slot.rows places decided.steps decided.chain) within pointing decided.moved
+
+    module _ (slots : List DecidedSlot) (schedule : IsKeptScheduleBy Moves n rounds t level places (slot ∷ slots)) where
+      pub first_kept_by : IsKeptSlotBy n rounds t level places slot
+      first_kept_by =
+          record {
+            pointing = schedule.pointing;
+            decided = schedule.schedule.0;
+            within = All-head (λ s. AreWithin n s.rows) slot slots schedule.within;
+          }
+
+      pub later_kept_by : KeepPointing Moves n level → IsKeptScheduleBy Moves n rounds (t + 1) level slot.decision.places slots
+      later_kept_by keep =
+          let now = first_kept_by in
+          record {
+            pointing = pointing_by keep now.pointing now.within now.decided;
+            schedule = schedule.schedule.1;
+            within = All-tail (λ s. AreWithin n s.rows) slot slots schedule.within;
+            kept = schedule.kept.1;
+          }
 
     module _ (slots : List DecidedSlot) (window : IsWindowBy Moves n rounds t level places (slot ∷ slots)) where
       pub first_slot_by : IsWindowSlotBy n rounds t level places slot
@@ -69,6 +94,12 @@ module _ (Moves : Moving) where
             kept = window.kept.1;
             clean = All-tail (λ s. IsClean n level s.rows) slot slots window.clean;
           }
+
+-- a window is a schedule of rows that are kept
+pub IsKept-window : (Moves : Moving) (n rounds t level : ℕ) (places : Places) (slots : List DecidedSlot) → IsWindowBy Moves n rounds t level places slots
+    → IsKeptScheduleBy Moves n rounds t level places slots
+IsKept-window Moves n rounds t level places slots window =
+    record { pointing = window.pointing; schedule = window.schedule; within = window.within; kept = window.kept }
 
 -- the same where pointers move as those of iSLIP do
 abbrev pub IsWindowSlot : ℕ → ℕ → ℕ → ℕ → Places → DecidedSlot → Type 0

@@ -1,16 +1,19 @@
 -- At line rate a request is served within the longest service for its number of ports and rounds, and no wait reaches it.
-use Rattle.std.proofs.Common.{◌≡◌, ℕ, ◌-◌, ◌<◌, ◌≤◌, List, length, map, All, Any, refl, sym, subst, inl, inr, arith}
+use Rattle.std.proofs.Common.{◌≡◌, ℕ, ◌-◌, ◌<◌, ◌≤◌, List, length, map, slice_index_or, All, Any, refl, sym, subst, inl, inr, arith}
 use Rattle.std.proofs.lemmas.Bool.{cases_lt, cases_eq, lt-ltb, le-ltb, ne_eqb}
 use Rattle.std.proofs.lemmas.Bool.Decides.{eqb_tells}
 use Rattle.rotating_pick.specs.declared.kinds.Kind.TheVariants.{Uni}
 use Rattle.slot_match.specs.Rows.{Names, row_of}
 use Rattle.slot_match.specs.Matches.{Serves}
 use Rattle.pointer_state.specs.Places.{Places}
+use Rattle.eslip_rounds.specs.Slots.{AreMoved}
 use Rattle.eslip_rounds.specs.Schedules.{DecidedSlot}
-use Rattle.service_bound.specs.Windows.{IsWindow, IsWithoutMulticast, InFirst, AreAtLineRate}
+use Rattle.service_bound.specs.Windows.{IsKeptScheduleBy, IsWindow, IsWithoutMulticast, IsQuietFor, InFirst, AreAtLineRate}
 use Rattle.service_bound.specs.Waits.{noted_of, longest_wait, longest_service, longest_service_in_one_round, longest_service_by, longest_service_at_line_rate}
-use Rattle.service_bound.proofs.ServedInTime.{served_in_time}
-use Rattle.service_bound.proofs.OneRoundServed.{one_served_in_time}
+use Rattle.service_bound.proofs.Granting.{IsQuietFor-clean}
+use Rattle.service_bound.proofs.InWindows.{IsKept-window}
+use Rattle.service_bound.proofs.ServedInTime.{quiet_served_in_time}
+use Rattle.service_bound.proofs.OneRoundServed.{one_quiet_served_in_time}
 use Rattle.service_bound.proofs.WaitsByRounds.{longest_wait-below_service}
 use Rattle.service_bound.proofs.OneRoundServedAtLineRate.{one_served_at_line_rate, one_longest_wait-at_line_rate}
 use Rattle.service_bound.proofs.ServedAtLineRate.{served_at_line_rate, longest_wait-at_line_rate}
@@ -45,17 +48,27 @@ by_ports_and_rounds P n rounds general two more = elim (cases_lt 2 n) [
   ]
 ]
 
--- ---- so many slots are enough
+-- ---- so many slots are enough, in which the output is asked as unicast of the level alone
+pub quiet_served_by_rounds : (n rounds t level i j : ℕ) (places : Places) (slots : List DecidedSlot) → 0 < rounds → i < n
+    → IsKeptScheduleBy AreMoved n rounds t level places slots → All (λ slot. IsQuietFor n level j slot.rows) slots
+    → InFirst (λ rows. Names (row_of rows i) level Uni j) slots → longest_service_by n rounds ≤ length slots
+    → Any (λ slot. Serves slot.decision.matched i j level Uni) slots
+quiet_served_by_rounds n rounds t level i j places slots some inside schedule quiet first long =
+    elim (eqb_tells rounds 1) [
+      | inl one ↦
+          one_quiet_served_in_time n t level i j places slots inside (subst (λ r. IsKeptScheduleBy AreMoved n r t level places slots) one.1 schedule) quiet first
+          (rw one.0 at long)
+      | inr more ↦ quiet_served_in_time n rounds t level i j places slots some inside schedule quiet first (rw more.0 at long)
+    ]
+
+-- so they are in a window without multicast
 pub served_by_rounds : (n rounds t level i j : ℕ) (places : Places) (slots : List DecidedSlot) → 0 < rounds → i < n → IsWindow n rounds t level places slots
     → All (λ slot. IsWithoutMulticast n level slot.rows) slots
     → InFirst (λ rows. Names (row_of rows i) level Uni j) slots → longest_service_by n rounds ≤ length slots
     → Any (λ slot. Serves slot.decision.matched i j level Uni) slots
-served_by_rounds n rounds t level i j places slots some inside window alone first long =
-    elim (eqb_tells rounds 1) [
-      | inl one ↦ one_served_in_time n t level i j places slots inside (subst (λ r. IsWindow n r t level places slots) one.1 window) alone first
-          (rw one.0 at long)
-      | inr more ↦ served_in_time n rounds t level i j places slots some inside window alone first (rw more.0 at long)
-    ]
+served_by_rounds n rounds t level i j places slots some inside window alone =
+    quiet_served_by_rounds n rounds t level i j places slots some inside (IsKept-window AreMoved n rounds t level places slots window)
+    (λ k d short. IsQuietFor-clean n level j (slice_index_or slots k d).rows (window.clean k d short) (alone k d short))
 
 -- from three ports on, one less
 served_from_three : (n rounds t level i j : ℕ) (places : Places) (slots : List DecidedSlot) → 2 < n → 0 < rounds → i < n

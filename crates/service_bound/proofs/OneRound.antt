@@ -19,17 +19,16 @@ use Rattle.eslip_rounds.specs.Slots.{AreMoved}
 use Rattle.eslip_rounds.specs.Schedules.{DecidedSlot}
 use Rattle.eslip_rounds.proofs.Deciding.{Names-decides}
 use Rattle.eslip_rounds.proofs.Testing.{Decides-named}
-use Rattle.service_bound.specs.Windows.{IsClean, IsWithoutMulticast}
+use Rattle.service_bound.specs.Windows.{IsQuietFor}
 use Rattle.service_bound.specs.Waits.{longest_service_in_one_round}
 use Rattle.service_bound.proofs.Sums.{sum_below, sum_below-le, sum_below-less, sum_below-most}
 use Rattle.service_bound.proofs.Distances.{distance-passed, distance-after}
 use Rattle.service_bound.proofs.Fresh.{fresh_of, fresh_of-most, fresh-accepted, stale-refused}
 use Rattle.service_bound.proofs.OneRoundRank.{silent_at, silent_at-le, silent_at-most, silent_at-own, silent_at-before, silent_at-after, one_rank}
 use Rattle.service_bound.proofs.OneRoundRank.{one_rank-far, one_rank-silent, one_rank-turns, one_rank-bound}
-use Rattle.service_bound.proofs.FirstRound.{grants_first}
 use Rattle.service_bound.proofs.LaterRounds.{first_of, BeginsWith, BeginsWith-slot}
-use Rattle.service_bound.proofs.Granting.{kind_is_first, served_by_first, refused}
-use Rattle.service_bound.proofs.InWindows.{AskOn, IsWindowSlot}
+use Rattle.service_bound.proofs.Granting.{quiet_grants, quiet_served, quiet_refused}
+use Rattle.service_bound.proofs.InWindows.{AskOn, IsKeptSlotBy}
 
 -- whether input x is silent for the request of input i for output j, where these rows are posted: 1 or 0
 abbrev pub silent_for : ℕ → ℕ → Places → List Row → ℕ → ℕ → ℕ → ℕ
@@ -67,9 +66,8 @@ nearest_of n level places rows i j pointing i_in j_in named =
     (pointing.grant j j_in) i i_in named
 
 module _ (n t level : ℕ) (rows : List Row) (matched : List (Option Fed)) (before after : Places) (level_in : level < LEVELS)
-    (begins : BeginsWith n t rows before matched matched) (moved : AreMoved n t rows matched matched before after) (pointing : ArePointing n level before)
-    (clean : IsClean n level rows) (alone : IsWithoutMulticast n level rows) where
-  module _ (later : List Row) (i j g h : ℕ) (i_in : i < n) (j_in : j < n) (named : Names (row_of rows i) level Uni j)
+    (begins : BeginsWith n t rows before matched matched) (moved : AreMoved n t rows matched matched before after) (pointing : ArePointing n level before) where
+  module _ (later : List Row) (i j g h : ℕ) (i_in : i < n) (j_in : j < n) (quiet : IsQuietFor n level j rows) (named : Names (row_of rows i) level Uni j)
       (left : Serves matched i j level Uni → ⊥) (on : AskOn n level matched rows later j) (nearest : IsNearest n level before rows j g)
       (next : IsNearest n level after later j h) where
     -- what is asked goes on, as a test
@@ -132,7 +130,7 @@ module _ (n t level : ℕ) (rows : List Row) (matched : List (Option Fed)) (befo
         let g_in = nearest.below in
         let h_in = next.below in
         let from_in = pointing.grant j j_in in
-        let nobody = refused n t level rows matched before level_in begins.opening pointing clean alone g j y g_in j_in granted accepted other in
+        let nobody = quiet_refused n t level rows matched before level_in begins.opening pointing j j_in quiet g y g_in granted accepted other in
         let stays = moved.grant_stays j level nobody in
         let at_most = nearest.least i i_in named in
         let stale = stale-refused n t level rows matched matched begins.opening.count before after moved pointing i j i_in j_in nobody g y g_in accepted.below
@@ -168,9 +166,8 @@ module _ (n t level : ℕ) (rows : List Row) (matched : List (Option Fed)) (befo
     -- either way the rank falls
     pub one_falls : one_rank_of n level after later i j h + 1 ≤ one_rank_of n level before rows i j g
     one_falls =
-        let granted = grants_first n t rows before level level_in clean Uni
-        (kind_is_first n t level rows matched before level_in begins.opening pointing clean alone) g j j_in nearest in
-        let met = served_by_first n t level rows matched before level_in begins.opening pointing clean alone g j nearest.below granted in
+        let granted = quiet_grants n t level rows matched before level_in begins.opening pointing j j_in quiet g nearest in
+        let met = quiet_served n t level rows matched before level_in begins.opening pointing j j_in quiet g nearest.below granted in
         elim (cases_eq met.0 j) [
           | inl same ↦ one_falls_where_accepted (subst (λ y. Serves matched g y level Uni) same met.2)
           | inr other ↦ one_falls_where_refused met.0 granted met.1 met.2 other
@@ -182,18 +179,19 @@ one_is_first n [] one = absurd (omega arith)
 one_is_first n (step ∷ []) one = refl
 one_is_first n (step ∷ second ∷ steps) one = absurd (omega arith)
 
--- the same of a slot of a window
-pub one_falls_in_slot : (n t level : ℕ) (places : Places) (slot : DecidedSlot) → IsWindowSlot n 1 t level places slot → IsWithoutMulticast n level slot.rows
-    → (later : List Row) (i j g h : ℕ) → i < n → Names (row_of slot.rows i) level Uni j → (Serves slot.decision.matched i j level Uni → ⊥)
+-- the same of a slot of a schedule
+pub one_falls_in_slot : (n t level : ℕ) (places : Places) (slot : DecidedSlot) → IsKeptSlotBy AreMoved n 1 t level places slot
+    → (later : List Row) (i j g h : ℕ) → i < n → IsQuietFor n level j slot.rows → Names (row_of slot.rows i) level Uni j
+    → (Serves slot.decision.matched i j level Uni → ⊥)
     → AskOn n level slot.decision.matched slot.rows later j → IsNearest n level places slot.rows j g → IsNearest n level slot.decision.places later j h
     → one_rank_of n level slot.decision.places later i j h + 1 ≤ one_rank_of n level places slot.rows i j g
-one_falls_in_slot n t level places slot now alone later i j g h i_in named left on nearest next =
+one_falls_in_slot n t level places slot now later i j g h i_in quiet named left on nearest next =
     let same : first_of n now.decided.steps ≡ slot.decision.matched = one_is_first n now.decided.steps now.decided.count ∙ sym now.decided.result in
     one_falls n t level slot.rows slot.decision.matched places slot.decision.places (now.within.levels i i_in level j Uni named)
     (subst (λ first. BeginsWith n t slot.rows places first slot.decision.matched) same
     (BeginsWith-slot n t slot.rows places AreMoved 1 slot.decision (omega arith) now.decided))
     (subst (λ first. AreMoved n t slot.rows first slot.decision.matched places slot.decision.places) same now.decided.moved)
-    now.pointing now.clean alone later i j g h i_in (now.within.ports i i_in level j Uni named) named left on nearest next
+    now.pointing later i j g h i_in (now.within.ports i i_in level j Uni named) quiet named left on nearest next
 
 -- every rank is below the bound
 pub one_rank_of-bound : (n level : ℕ) (places : Places) (rows : List Row) (i j g : ℕ) → ArePointing n level places → i < n → j < n

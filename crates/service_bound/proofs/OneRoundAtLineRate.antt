@@ -15,7 +15,7 @@ use Rattle.pointer_state.specs.Places.{Places, ArePointing, grant_of, accept_of}
 use Rattle.eslip_rounds.specs.Slots.{AreMoved}
 use Rattle.eslip_rounds.proofs.Testing.{Decides-named}
 use Rattle.eslip_rounds.specs.Decisions.{is_named}
-use Rattle.service_bound.specs.Windows.{IsClean, IsWithoutMulticast, GainAtMostOne}
+use Rattle.service_bound.specs.Windows.{IsClean, IsWithoutMulticast, GainAtMostOne, IsQuietFor}
 use Rattle.service_bound.proofs.Sums.{sum_below-le, sum_below-less, sum_below-two}
 use Rattle.service_bound.proofs.Distances.{distance-passed}
 use Rattle.service_bound.proofs.Fresh.{fresh_of, fresh-accepted}
@@ -23,7 +23,7 @@ use Rattle.service_bound.proofs.OneRoundRank.{silent_at, silent_at-le, silent_at
 use Rattle.service_bound.proofs.OneRoundRank.{one_rank-silent_twice, one_rank-two_silent, one_rank-turns_twice}
 use Rattle.service_bound.proofs.FirstRound.{grants_first, first_granted}
 use Rattle.service_bound.proofs.LaterRounds.{BeginsWith}
-use Rattle.service_bound.proofs.Granting.{kind_is_first, served_by_first, refused}
+use Rattle.service_bound.proofs.Granting.{IsQuietFor-clean, kind_is_first, served_by_first, refused}
 use Rattle.service_bound.proofs.InWindows.{AskOn}
 use Rattle.service_bound.proofs.LineRateClasses.{IsFarAmongFresh, IsAlone, IsBeside, IsLower, other_asks, begins_beside, FallsByTwo, two_steps, alone_refused}
 use Rattle.service_bound.proofs.OneRound.{silent_accepted, silent_for, silent_of, one_rank_of, IsNearest, tests_on, one_falls}
@@ -37,6 +37,9 @@ module _ (n t level : ℕ) (rows : List Row) (matched : List (Option Fed)) (befo
     abbrev IsTwoLess : Type 0
     IsTwoLess = one_rank_of n level after later i j h + 2 ≤ one_rank_of n level before rows i j g
 
+    quiet : IsQuietFor n level j rows
+    quiet = IsQuietFor-clean n level j rows clean alone
+
     abbrev FallsAtLineRate : Type 0
     FallsAtLineRate = IsTwoLess ⊎ ((one_rank_of n level after later i j h + 1 ≤ one_rank_of n level before rows i j g) × IsLower n level i j after later)
 
@@ -44,7 +47,7 @@ module _ (n t level : ℕ) (rows : List Row) (matched : List (Option Fed)) (befo
     Two v = FallsByTwo n t level rows matched matched before after level_in begins.opening moved pointing clean alone more v i j
 
     falls_once : one_rank_of n level after later i j h + 1 ≤ one_rank_of n level before rows i j g
-    falls_once = one_falls n t level rows matched before after level_in begins moved pointing clean alone later i j g h i_in j_in named left on nearest next
+    falls_once = one_falls n t level rows matched before after level_in begins moved pointing later i j g h i_in j_in quiet named left on nearest next
 
     -- the nearest input takes another output y
     module _ (base : IsFarAmongFresh n level i j before) (y : ℕ) (nobody : (x : ℕ) → Serves matched x j level Uni → ⊥) (served : Serves matched g y level Uni)
@@ -56,7 +59,7 @@ module _ (n t level : ℕ) (rows : List Row) (matched : List (Option Fed)) (befo
           (distance n (grant_of before j level) x) (is_named (row_of rows x) level Uni j) (is_named (row_of later x) level Uni j)
           (λ near. (
             near,
-            tests_on n t level rows matched before after level_in begins moved pointing clean alone later i j g h i_in j_in named left on
+            tests_on n t level rows matched before after level_in begins moved pointing later i j g h i_in j_in quiet named left on
                 nearest next x x_in (nobody x),
           )) in
           subst (λ p. silent_at (distance n p i) (distance n p x) (is_named (row_of later x) level Uni j) ≤ silent_for n level before rows i j x)
@@ -210,7 +213,7 @@ module _ (n t level : ℕ) (rows : List Row) (matched : List (Option Fed)) (befo
         let passed = distance-passed n (grant_of before j level) g i from_in g_in i_in ahead in
         let place = moved.granted g j level served in
         let no_fresher = fresh-accepted n t level rows matched matched begins.opening.count before after moved pointing i j i_in j_in g g_in served ahead in
-        let no_more = silent_accepted n t level rows matched before after level_in begins moved pointing clean alone later i j g h i_in j_in named left on
+        let no_more = silent_accepted n t level rows matched before after level_in begins moved pointing later i j g h i_in j_in quiet named left on
         nearest next served in
         let lower = one_rank-far_twice n (distance n (grant_of before j level) i) (silent_of n level before rows i j)
         (distance n (accept_of before g level) j) (fresh_of n level before i j)

@@ -19,6 +19,7 @@ use Rattle.service_bound.proofs.Fresh.{fresh_for, fresh_of, fresh_of-most}
 use Rattle.service_bound.proofs.LaterRounds.{first_of, BeginsWith, BeginsWith-slot}
 use Rattle.service_bound.proofs.InWindows.{AskOn, AreMoved-keep, IsWindowSlot}
 use Rattle.service_bound.proofs.OneRoundRank.{silent_at-most, silent_at-own, silent_at-after, one_rank-bound, one_rank-greatest}
+use Rattle.service_bound.proofs.Granting.{IsQuietFor-clean}
 use Rattle.service_bound.proofs.OneRound.{silent_for, silent_of, silent_of-lt, one_rank_of, IsNearest, nearest_of, one_is_first, one_falls_in_slot}
 use Rattle.service_bound.proofs.OneRound.{one_rank_of-bound}
 use Rattle.service_bound.proofs.LineRateClasses.{IsAlone, IsLower}
@@ -130,7 +131,8 @@ lower_falling n level i j more i_in =
           record {
             named = on i i_in asks.named left;
             below = λ h next.
-                let falls = one_falls_in_slot n t level places slot now alone later i j nearest.0 h i_in asks.named left on nearest.1 next in
+                let falls = one_falls_in_slot n t level places slot (record { pointing = now.pointing; decided = now.decided; within = now.within })
+                later i j nearest.0 h i_in (IsQuietFor-clean n level j slot.rows now.clean alone) asks.named left on nearest.1 next in
                 elim (asks.below nearest.0 nearest.1) [
                   | inl below ↦ inl (omega (arith, falls, below))
                   | inr lower ↦

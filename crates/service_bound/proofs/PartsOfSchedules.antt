@@ -7,31 +7,24 @@ use Rattle.slot_match.specs.Keeping.{Keeps}
 use Rattle.pointer_state.specs.Places.{Places, ArePointing}
 use Rattle.eslip_rounds.specs.Slots.{Moving, AreMoved}
 use Rattle.eslip_rounds.specs.Schedules.{DecidedSlot, IsScheduleBy, IsSchedule}
-use Rattle.service_bound.specs.Windows.{IsClean, AreKept, InFirst, IsWindowBy, IsWindow, places_after}
+use Rattle.service_bound.specs.Windows.{IsClean, AreKept, InFirst, IsKeptScheduleBy, IsWindowBy, IsWindow, places_after}
 use Rattle.service_bound.proofs.InWindows.{KeepPointing, AreMoved-keep, pointing_by}
 
 module _ (Moves : Moving) (n rounds level : ℕ) (keep : KeepPointing Moves n level) where
-  -- a schedule of rows that are kept, from pointers at ports
-  record IsKeptSchedule (t : ℕ) (places : Places) (slots : List DecidedSlot) : Type 0 where
-    pointing : ArePointing n level places
-    schedule : IsScheduleBy Moves n rounds t places slots
-    within : All (λ slot. AreWithin n slot.rows) slots
-    kept : AreKept n slots
-
   -- without its first slots
-  IsKeptSchedule-drop : (first : ℕ) (slots : List DecidedSlot) (t : ℕ) (places : Places) → IsKeptSchedule t places slots
-      → IsKeptSchedule (t + first) (places_after places (take first slots)) (drop first slots)
-  IsKeptSchedule-drop zero slots t places s = let same : t ≡ t + 0 = omega arith in subst (λ u. IsKeptSchedule u places slots) same s
+  IsKeptSchedule-drop : (first : ℕ) (slots : List DecidedSlot) (t : ℕ) (places : Places) → IsKeptScheduleBy Moves n rounds t level places slots
+      → IsKeptScheduleBy Moves n rounds (t + first) level (places_after places (take first slots)) (drop first slots)
+  IsKeptSchedule-drop zero slots t places s = let same : t ≡ t + 0 = omega arith in subst (λ u. IsKeptScheduleBy Moves n rounds u level places slots) same s
   IsKeptSchedule-drop (suc first) [] t places s = record { pointing = s.pointing; schedule = tt; within = s.within; kept = tt }
   IsKeptSchedule-drop (suc first) (slot ∷ slots) t places s =
-      let next : IsKeptSchedule (t + 1) slot.decision.places slots = record {
+      let next : IsKeptScheduleBy Moves n rounds (t + 1) level slot.decision.places slots = record {
         pointing = pointing_by Moves n rounds t level places slot keep s.pointing (All-head (λ x. AreWithin n x.rows) slot slots s.within) s.schedule.0;
         schedule = s.schedule.1;
         within = All-tail (λ x. AreWithin n x.rows) slot slots s.within;
         kept = s.kept.1;
       } in
       let same : t + 1 + first ≡ t + suc first = omega arith in
-      subst (λ u. IsKeptSchedule u (places_after slot.decision.places (take first slots)) (drop first slots)) same
+      subst (λ u. IsKeptScheduleBy Moves n rounds u level (places_after slot.decision.places (take first slots)) (drop first slots)) same
       (IsKeptSchedule-drop first slots (t + 1) slot.decision.places next)
 
   -- without its last slots
@@ -55,18 +48,29 @@ module _ (Moves : Moving) (n rounds level : ℕ) (keep : KeepPointing Moves n le
   )
 
   -- some slots from slot `first` on
-  IsWindow-part : (t first count : ℕ) (places : Places) (slots : List DecidedSlot) → IsKeptSchedule t places slots
-      → All (λ slot. IsClean n level slot.rows) (take count (drop first slots))
-      → IsWindowBy Moves n rounds (t + first) level (places_after places (take first slots)) (take count (drop first slots))
-  IsWindow-part t first count places slots s clean =
+  IsKeptSchedule-part : (t first count : ℕ) (places : Places) (slots : List DecidedSlot) → IsKeptScheduleBy Moves n rounds t level places slots
+      → IsKeptScheduleBy Moves n rounds (t + first) level (places_after places (take first slots)) (take count (drop first slots))
+  IsKeptSchedule-part t first count places slots s =
       let later = IsKeptSchedule-drop first slots t places s in
       record {
         pointing = later.pointing;
         schedule = IsSchedule-take count (drop first slots) (t + first) (places_after places (take first slots)) later.schedule;
         within = All-take (λ slot. AreWithin n slot.rows) count (drop first slots) later.within;
         kept = AreKept-take count (drop first slots) later.kept;
-        clean = clean;
       }
+
+  -- which are a window where they are clean
+  IsWindow-part : (t first count : ℕ) (places : Places) (slots : List DecidedSlot) → IsKeptScheduleBy Moves n rounds t level places slots
+      → All (λ slot. IsClean n level slot.rows) (take count (drop first slots))
+      → IsWindowBy Moves n rounds (t + first) level (places_after places (take first slots)) (take count (drop first slots))
+  IsWindow-part t first count places slots s clean =
+      let part = IsKeptSchedule-part t first count places slots s in
+      record { pointing = part.pointing; schedule = part.schedule; within = part.within; kept = part.kept; clean = clean }
+
+pub part_is_kept_by : (Moves : Moving) (n rounds t level first count : ℕ)
+    (places : Places) (slots : List DecidedSlot) → KeepPointing Moves n level → IsKeptScheduleBy Moves n rounds t level places slots
+    → IsKeptScheduleBy Moves n rounds (t + first) level (places_after places (take first slots)) (take count (drop first slots))
+part_is_kept_by Moves n rounds t level first count places slots keep = IsKeptSchedule-part Moves n rounds level keep t first count places slots
 
 pub part_is_window_by : (Moves : Moving) (n rounds t level first count : ℕ)
     (places : Places) (slots : List DecidedSlot) → KeepPointing Moves n level → ArePointing n level places → IsScheduleBy Moves n rounds t places slots

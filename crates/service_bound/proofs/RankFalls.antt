@@ -15,14 +15,13 @@ use Rattle.eslip_rounds.specs.Rounds.{Grants}
 use Rattle.eslip_rounds.specs.Slots.{AreMoved}
 use Rattle.eslip_rounds.specs.Schedules.{DecidedSlot}
 use Rattle.eslip_rounds.proofs.Deciding.{Names-decides}
-use Rattle.service_bound.specs.Windows.{IsClean, IsWithoutMulticast}
+use Rattle.service_bound.specs.Windows.{IsClean, IsWithoutMulticast, IsQuietFor}
 use Rattle.service_bound.proofs.Distances.{distance-passed}
 use Rattle.service_bound.proofs.Fresh.{fresh_of, fresh_of-most, fresh-accepted, stale-refused}
 use Rattle.service_bound.proofs.Rank.{twice_longest, twice_rank, twice_rank-far, twice_rank-near, twice_rank-turns, twice_rank-bound}
-use Rattle.service_bound.proofs.FirstRound.{grants_first}
 use Rattle.service_bound.proofs.LaterRounds.{first_of, BeginsWith, BeginsWith-slot}
-use Rattle.service_bound.proofs.Granting.{kind_is_first, served_by_first, refused}
-use Rattle.service_bound.proofs.InWindows.{IsWindowSlot}
+use Rattle.service_bound.proofs.Granting.{quiet_grants, quiet_served, quiet_refused, IsQuietFor-clean}
+use Rattle.service_bound.proofs.InWindows.{IsKeptSlotBy, IsWindowSlot}
 
 -- twice the rank of the request of input i for output j, where input g asks for it too
 abbrev pub twice_rank_of : ℕ → ℕ → Places → ℕ → ℕ → ℕ → ℕ
@@ -40,10 +39,9 @@ pub record FallsBy (n level : ℕ) (rows : List Row) (matched : List (Option Fed
   pub lower : twice_rank_of n level after i j h + 2 ≤ twice_rank_of n level before i j g
 
 module _ (n t level : ℕ) (rows : List Row) (first matched : List (Option Fed)) (before after : Places) (level_in : level < LEVELS)
-    (begins : BeginsWith n t rows before first matched) (moved : AreMoved n t rows first matched before after) (pointing : ArePointing n level before)
-    (clean : IsClean n level rows) (alone : IsWithoutMulticast n level rows) where
-  module _ (i j g : ℕ) (i_in : i < n) (j_in : j < n) (g_in : g < n) (named : Names (row_of rows i) level Uni j) (asking : Names (row_of rows g) level Uni j)
-      (left : Serves matched i j level Uni → ⊥) where
+    (begins : BeginsWith n t rows before first matched) (moved : AreMoved n t rows first matched before after) (pointing : ArePointing n level before) where
+  module _ (i j g : ℕ) (i_in : i < n) (j_in : j < n) (g_in : g < n) (quiet : IsQuietFor n level j rows) (named : Names (row_of rows i) level Uni j)
+      (asking : Names (row_of rows g) level Uni j) (left : Serves matched i j level Uni → ⊥) where
     -- the input that is granted took the output: the grant pointer passes it, and comes nearer to i
     falls_where_accepted : (h : ℕ) → IsFirstFrom n (grant_of before j level) (λ x. Names (row_of rows x) level Uni j) h → Serves first h j level Uni
         → FallsBy n level rows matched before after i j g i
@@ -78,7 +76,7 @@ module _ (n t level : ℕ) (rows : List Row) (first matched : List (Option Fed))
         → FallsBy n level rows matched before after i j g h
     falls_where_refused h y nearest granted accepted served other =
         let h_in = nearest.below in
-        let nobody = refused n t level rows first before level_in begins.opening pointing clean alone h j y h_in j_in granted accepted other in
+        let nobody = quiet_refused n t level rows first before level_in begins.opening pointing j j_in quiet h y h_in granted accepted other in
         let stays = moved.grant_stays j level nobody in
         let no_farther = nearest.least g g_in asking in
         let stale = stale-refused n t level rows first matched begins.opening.count before after moved pointing i j i_in j_in nobody h y h_in accepted.below
@@ -105,28 +103,41 @@ module _ (n t level : ℕ) (rows : List Row) (first matched : List (Option Fed))
         }
 
     -- either way some input asks on by which the rank falls
-    pub falls : (h : ℕ) × FallsBy n level rows matched before after i j g h
-    falls =
+    pub quiet_falls : (h : ℕ) × FallsBy n level rows matched before after i j g h
+    quiet_falls =
         let nearest = IsFirstFrom-some n (grant_of before j level) (λ x. Names (row_of rows x) level Uni j) (λ x. Names-decides (row_of rows x) level Uni j)
         (pointing.grant j j_in) g g_in asking in
         let h = nearest.0 in
-        let granted = grants_first n t rows before level level_in clean Uni
-        (kind_is_first n t level rows first before level_in begins.opening pointing clean alone) h j j_in nearest.1 in
-        let met = served_by_first n t level rows first before level_in begins.opening pointing clean alone h j nearest.1.below granted in
+        let granted = quiet_grants n t level rows first before level_in begins.opening pointing j j_in quiet h nearest.1 in
+        let met = quiet_served n t level rows first before level_in begins.opening pointing j j_in quiet h nearest.1.below granted in
         elim (cases_eq met.0 j) [
           | inl same ↦ (i, falls_where_accepted h nearest.1 (subst (λ y. Serves first h y level Uni) same met.2))
           | inr other ↦ (h, falls_where_refused h met.0 nearest.1 granted met.1 met.2 other)
         ]
 
--- the same of a slot of a window
+  -- in a slot whose rows name nothing at a better level, and nothing as multicast of the level
+  pub falls : IsClean n level rows → IsWithoutMulticast n level rows → (i j g : ℕ) → i < n → j < n → g < n → Names (row_of rows i) level Uni j
+      → Names (row_of rows g) level Uni j → (Serves matched i j level Uni → ⊥) → (h : ℕ) × FallsBy n level rows matched before after i j g h
+  falls clean alone i j g i_in j_in g_in = quiet_falls i j g i_in j_in g_in (IsQuietFor-clean n level j rows clean alone)
+
+-- the same of a slot of a schedule
+pub falls_in_quiet_slot : (n rounds t level : ℕ) (places : Places) (slot : DecidedSlot) → 0 < rounds → IsKeptSlotBy AreMoved n rounds t level places slot
+    → (i j g : ℕ) → i < n → g < n → IsQuietFor n level j slot.rows → Names (row_of slot.rows i) level Uni j → Names (row_of slot.rows g) level Uni j
+    → (Serves slot.decision.matched i j level Uni → ⊥)
+    → (h : ℕ) × FallsBy n level slot.rows slot.decision.matched places slot.decision.places i j g h
+falls_in_quiet_slot n rounds t level places slot some now i j g i_in g_in quiet named asking left =
+    quiet_falls n t level slot.rows (first_of n now.decided.steps) slot.decision.matched places slot.decision.places
+    (now.within.levels i i_in level j Uni named) (BeginsWith-slot n t slot.rows places AreMoved rounds slot.decision some now.decided) now.decided.moved
+    now.pointing i j g i_in (now.within.ports i i_in level j Uni named) g_in quiet named asking left
+
+-- and of a window
 pub falls_in_slot : (n rounds t level : ℕ) (places : Places) (slot : DecidedSlot) → 0 < rounds → IsWindowSlot n rounds t level places slot
     → IsWithoutMulticast n level slot.rows → (i j g : ℕ) → i < n → g < n → Names (row_of slot.rows i) level Uni j → Names (row_of slot.rows g) level Uni j
     → (Serves slot.decision.matched i j level Uni → ⊥)
     → (h : ℕ) × FallsBy n level slot.rows slot.decision.matched places slot.decision.places i j g h
-falls_in_slot n rounds t level places slot some now alone i j g i_in g_in named asking left =
-    falls n t level slot.rows (first_of n now.decided.steps) slot.decision.matched places slot.decision.places (now.within.levels i i_in level j Uni named)
-    (BeginsWith-slot n t slot.rows places AreMoved rounds slot.decision some now.decided) now.decided.moved now.pointing now.clean alone i j g i_in
-    (now.within.ports i i_in level j Uni named) g_in named asking left
+falls_in_slot n rounds t level places slot some now alone i j g i_in g_in =
+    falls_in_quiet_slot n rounds t level places slot some (record { pointing = now.pointing; decided = now.decided; within = now.within }) i j g i_in g_in
+    (IsQuietFor-clean n level j slot.rows now.clean alone)
 
 -- a request that is alone with itself has a rank, and it is below the bound
 pub twice_rank_of-bound : (n level : ℕ) (places : Places) (i j : ℕ) → ArePointing n level places → i < n → j < n

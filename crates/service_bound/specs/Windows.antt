@@ -1,5 +1,5 @@
 -- Windows: slots one after the other in which the laws speak of one level.
-use Rattle.std.specs.Prelude.{◌≡◌, ℕ, ◌<◌, List, [], ◌∷◌, All}
+use Rattle.std.specs.Prelude.{◌≡◌, ℕ, ◌<◌, ◌⊎◌, List, [], ◌∷◌, All}
 use Rattle.rotating_pick.specs.declared.kinds.Kind.{Kind}
 use Rattle.rotating_pick.specs.declared.kinds.Kind.TheVariants.{Uni, Multi}
 use Rattle.slot_match.specs.declared.rows.Row.{Row}
@@ -16,6 +16,19 @@ IsClean n level rows = (i better j : ℕ) (kind : Kind) → i < n → better < l
 -- no row names an output as multicast of the level
 abbrev pub IsWithoutMulticast : ℕ → ℕ → List Row → Type 0
 IsWithoutMulticast n level rows = (i j : ℕ) → i < n → Names (row_of rows i) level Multi j → ⊥
+
+-- the row names the output at a level better than this one, or as multicast of this one
+pub record NamesBetter (row : Row) (level j : ℕ) : Type 0 where
+  pub at : ℕ
+  pub kind : Kind
+  pub better : (at < level) ⊎ ((at ≡ level) × (kind ≡ Multi))
+  pub named : Names row at kind j
+
+-- Output j is asked as unicast of the level alone: no row names it at a better level or as multicast of the level, and the
+-- rows that name it as unicast of the level name no output so.
+pub record IsQuietFor (n level j : ℕ) (rows : List Row) : Type 0 where
+  pub output : (i : ℕ) → i < n → NamesBetter (row_of rows i) level j → ⊥
+  pub inputs : (i other : ℕ) → i < n → Names (row_of rows i) level Uni j → NamesBetter (row_of rows i) level other → ⊥
 
 -- the rows of the first slot, if there is one, are so
 abbrev pub InFirst : (List Row → Type 0) → List DecidedSlot → Type 0
@@ -45,8 +58,15 @@ AreFollowing Follows (slot ∷ slots) = InFirst (Follows slot.rows) slots × Are
 abbrev pub AreAtLineRate : ℕ → ℕ → List DecidedSlot → Type 0
 AreAtLineRate n level = AreFollowing (GainAtMostOne n level)
 
--- Slots from slot t on, decided from these pointers, of rows that are kept, where `Moves` says how pointers move. None
--- names an output at a better level, and the level's pointers are at ports.
+-- Slots from slot t on, decided from these pointers, of rows that are kept, where `Moves` says how pointers move. The
+-- level's pointers are at ports.
+pub record IsKeptScheduleBy (Moves : Moving) (n rounds t level : ℕ) (places : Places) (slots : List DecidedSlot) : Type 0 where
+  pub pointing : ArePointing n level places
+  pub schedule : IsScheduleBy Moves n rounds t places slots
+  pub within : All (λ slot. AreWithin n slot.rows) slots
+  pub kept : AreKept n slots
+
+-- the same, where besides none of the rows names an output at a better level
 pub record IsWindowBy (Moves : Moving) (n rounds t level : ℕ) (places : Places) (slots : List DecidedSlot) : Type 0 where
   pub pointing : ArePointing n level places
   pub schedule : IsScheduleBy Moves n rounds t places slots

@@ -7,8 +7,10 @@ ghost use Rattle.rotating_pick.specs.declared.limits.TheConstants.{LEVELS, MAX_P
 ghost use Rattle.slot_match.specs.Rows.{Names, row_of, HasHead, AreWithin};
 ghost use Rattle.slot_match.specs.Matches.{Serves, Completes};
 ghost use Rattle.pointer_state.specs.Places.{Places, ArePointing};
+ghost use Rattle.eslip_rounds.specs.Slots.{AreMoved};
 ghost use Rattle.eslip_rounds.specs.Schedules.{DecidedSlot, IsSchedule};
 ghost use Rattle.service_bound.specs.Windows.{IsWindow, InFirst, AreKept, IsClean, IsWithoutMulticast, AreAtLineRate, places_after};
+ghost use Rattle.service_bound.specs.Windows.{IsKeptScheduleBy, IsQuietFor};
 ghost use Rattle.service_bound.specs.declared.limits.TheConstants.{MAX_NOTED};
 ghost use Rattle.service_bound.specs.Latest.{IsServedLast, ComesLast};
 ghost use Rattle.service_bound.specs.Waits.{noted_of, longest_wait, longest_service, longest_service_in_one_round, longest_service_by};
@@ -21,6 +23,16 @@ pub fn unicast_served()
     ensures { (n rounds t level i j : ℕ) (places : Places) (slots : List DecidedSlot) → 0 < rounds → i < n → IsWindow n rounds t level places slots
         → All (λ slot. IsWithoutMulticast n level slot.rows) slots → InFirst (λ rows. Names (row_of rows i) level Uni j) slots
         → longest_service n ≤ length slots → Any (λ slot. Serves slot.decision.matched i j level Uni) slots }
+{}
+
+/// It need not be a window: where requests are kept, so many slots as [`crate::longest_service`] tells are enough in which
+/// the output is asked as unicast of the level alone, and by inputs that ask nothing better. What others ask of
+/// other outputs does not count, of whatever level and kind.
+pub fn served_where_quiet()
+    ensures { (n rounds t level i j : ℕ) (places : Places) (slots : List DecidedSlot) → 0 < rounds → i < n
+        → IsKeptScheduleBy AreMoved n rounds t level places slots → All (λ slot. IsQuietFor n level j slot.rows) slots
+        → InFirst (λ rows. Names (row_of rows i) level Uni j) slots
+        → longest_service_by n rounds ≤ length slots → Any (λ slot. Serves slot.decision.matched i j level Uni) slots }
 {}
 
 /// Where each slot has one round, a window of `2 * n * n - 3 * n + 2` such slots is enough.
