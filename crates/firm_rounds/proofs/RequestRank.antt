@@ -1,4 +1,5 @@
--- The rank of a request: it falls in each slot of a window without multicast in which the request is not served.
+-- The rank of a request: it falls in each slot in which its output is asked as unicast of the level alone and the
+-- request is not served.
 use Rattle.std.proofs.Common.{◌≡◌, ℕ, ◌+◌, ◌*◌, ◌%◌, ◌<◌, ◌≤◌, List, Option, subst, inl, inr, arith}
 use Rattle.std.proofs.Math.Nat.{mul-le-mul_left}
 use Rattle.std.proofs.lemmas.Bool.{cases_eq}
@@ -14,11 +15,10 @@ use Rattle.slot_match.specs.Matches.{unmatched, Serves}
 use Rattle.pointer_state.specs.Places.{Places, ArePointing, grant_of, accept_of}
 use Rattle.eslip_rounds.specs.Rounds.{Grants}
 use Rattle.eslip_rounds.proofs.Deciding.{Names-decides}
-use Rattle.service_bound.specs.Windows.{IsClean, IsWithoutMulticast}
+use Rattle.service_bound.specs.Windows.{IsQuietFor}
 use Rattle.service_bound.proofs.Distances.{distance-passed, distance-reached, distance-own}
-use Rattle.service_bound.proofs.FirstRound.{grants_first}
 use Rattle.service_bound.proofs.LaterRounds.{BeginsWith}
-use Rattle.service_bound.proofs.Granting.{kind_is_first, served_by_first, refused}
+use Rattle.service_bound.proofs.Granting.{quiet_grants, quiet_served, quiet_refused}
 use Rattle.firm_rounds.specs.Slots.{AreMovedByFirm}
 
 -- Where these rows are posted: the input asks, and the rank of its request is below `most`. The rank is n times the
@@ -62,8 +62,8 @@ RanksBelow-nearer n level i j places most far rows pointing i_in j_in named near
 
 module _ (n t level : ℕ) (rows : List Row) (first matched : List (Option Fed)) (before after : Places) (level_in : level < LEVELS)
     (begins : BeginsWith n t rows before first matched) (moved : AreMovedByFirm n t rows first matched before after) (pointing : ArePointing n level before)
-    (pointing_after : ArePointing n level after) (clean : IsClean n level rows) (alone : IsWithoutMulticast n level rows) where
-  module _ (i j most : ℕ) (i_in : i < n) (j_in : j < n) (ranks : RanksBelow n level i j before (most + 1) rows) (left : Serves matched i j level Uni → ⊥)
+    (pointing_after : ArePointing n level after) where
+  module _ (i j most : ℕ) (i_in : i < n) (j_in : j < n) (quiet : IsQuietFor n level j rows) (ranks : RanksBelow n level i j before (most + 1) rows) (left : Serves matched i j level Uni → ⊥)
       (later : List Row) (named : Names (row_of later i) level Uni j) where
     -- the input h that is granted took the output: the grant pointer passes it, and comes nearer to i
     falls_where_accepted : (h : ℕ) → IsFirstFrom n (grant_of before j level) (λ x. Names (row_of rows x) level Uni j) h
@@ -88,7 +88,7 @@ module _ (n t level : ℕ) (rows : List Row) (first matched : List (Option Fed))
         let h_in = nearest.below in
         let from_in = pointing.grant j j_in in
         let accept_in = pointing.accept h h_in in
-        let nobody = refused n t level rows first before level_in begins.opening pointing clean alone h j y h_in j_in granted accepted other in
+        let nobody = quiet_refused n t level rows first before level_in begins.opening pointing j j_in quiet h y h_in granted accepted other in
         let place : grant_of after j level ≡ h =
         moved.held h j level (granted, λ accepts. nobody h ((begins.opening.pairs h j level Uni).1 (inr accepts))) in
         let at_most = nearest.least i i_in ranks.named in
@@ -115,12 +115,11 @@ module _ (n t level : ℕ) (rows : List Row) (first matched : List (Option Fed))
     -- either way the rank falls
     pub rank_falls : RanksBelow n level i j after most later
     rank_falls =
-        let first_kind = kind_is_first n t level rows first before level_in begins.opening pointing clean alone in
         let nearest = IsFirstFrom-some n (grant_of before j level) (λ x. Names (row_of rows x) level Uni j) (λ x. Names-decides (row_of rows x) level Uni j)
         (pointing.grant j j_in) i i_in ranks.named in
         let h = nearest.0 in
-        let granted = grants_first n t rows before level level_in clean Uni first_kind h j j_in nearest.1 in
-        let met = served_by_first n t level rows first before level_in begins.opening pointing clean alone h j nearest.1.below granted in
+        let granted = quiet_grants n t level rows first before level_in begins.opening pointing j j_in quiet h nearest.1 in
+        let met = quiet_served n t level rows first before level_in begins.opening pointing j j_in quiet h nearest.1.below granted in
         elim (cases_eq met.0 j) [
           | inl same ↦ falls_where_accepted h nearest.1 (subst (λ y. Serves first h y level Uni) same met.2)
           | inr other ↦ falls_where_refused h met.0 nearest.1 granted met.1 met.2 other

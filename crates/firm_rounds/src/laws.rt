@@ -12,7 +12,7 @@ ghost use Rattle.pointer_state.specs.Places.{Places, AreAtPorts, ArePointing, gr
 ghost use Rattle.eslip_rounds.specs.Rounds.{Grants, IsRound};
 ghost use Rattle.eslip_rounds.specs.Slots.{Decision, IsRefused};
 ghost use Rattle.eslip_rounds.specs.Schedules.{DecidedSlot, IsScheduleBy};
-ghost use Rattle.service_bound.specs.Windows.{IsWindowBy, InFirst, AreKept, IsClean, IsWithoutMulticast, places_after};
+ghost use Rattle.service_bound.specs.Windows.{IsKeptScheduleBy, IsQuietFor, IsWindowBy, InFirst, AreKept, IsClean, IsWithoutMulticast, places_after};
 ghost use Rattle.service_bound.specs.Waits.{noted_of, longest_wait};
 ghost use Rattle.firm_rounds.specs.Slots.{AreMovedByFirm, IsFirmSlot};
 ghost use Rattle.firm_rounds.specs.Decisions.{firm_decision};
@@ -24,6 +24,15 @@ pub fn firm_served()
     ensures { (n rounds t level i j : ℕ) (places : Places) (slots : List DecidedSlot) → 0 < rounds → i < n
         → IsWindowBy AreMovedByFirm n rounds t level places slots
         → All (λ slot. IsWithoutMulticast n level slot.rows) slots → InFirst (λ rows. Names (row_of rows i) level Uni j) slots
+        → n * n ≤ length slots → Any (λ slot. Serves slot.decision.matched i j level Uni) slots }
+{}
+
+/// It need not be a window: where requests are kept, so many slots are enough in which the output is asked as unicast of
+/// the level alone, and by inputs that ask nothing better. What others ask of other outputs does not count.
+pub fn firm_served_where_quiet()
+    ensures { (n rounds t level i j : ℕ) (places : Places) (slots : List DecidedSlot) → 0 < rounds → i < n
+        → IsKeptScheduleBy AreMovedByFirm n rounds t level places slots
+        → All (λ slot. IsQuietFor n level j slot.rows) slots → InFirst (λ rows. Names (row_of rows i) level Uni j) slots
         → n * n ≤ length slots → Any (λ slot. Serves slot.decision.matched i j level Uni) slots }
 {}
 
