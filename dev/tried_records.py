@@ -2,6 +2,7 @@
 
 A record has the kit, a sum of the crate's own text, a sum of what is stated in each crate below (its `specs/` and the
 contracts of its sources), and for each edit a sum of its file, the function that it changes and what refused it.
+Kits of one logic prove and refuse the same, so a record holds for each of them.
 """
 
 import hashlib
@@ -93,14 +94,20 @@ def read_record(folder):
     return Record(found["kit"], found["text"], found["below"], found["edit"])
 
 
+def logic_of(kit):
+    """The words by which a kit's line names its logic, which are those from `logic` on, or the whole line where it names none."""
+    before, word, rest = kit.partition("logic ")
+    return word + rest if word else before
+
+
 def fault_of(top, name, kit):
-    """Why the record of a crate is not of the present texts, none where it is. The kit is None where there is none to compare with."""
+    """Why the record of a crate is not of the present texts and logic, none where it is. The kit is None where there is none to compare with."""
     folder = top / "crates" / name
     record = read_record(folder)
     if record is None:
         return "its wrong bodies were never tried"
-    if kit not in (None, record.kit):
-        return f"they were tried with another kit, {record.kit}"
+    if kit is not None and logic_of(kit) != logic_of(record.kit):
+        return f"they were tried with another logic, that of {record.kit}"
     if record.text != own_sum(folder):
         return "it changed since they were tried"
     if {row.name: row.sum for row in record.rows} != {edit.name: edit.sum for edit in edits_of(folder)}:
@@ -116,6 +123,6 @@ def untried(top):
 
 
 def faults(top, kit):
-    """A line for each crate whose record is not of the present texts."""
+    """A line for each crate whose record is not of the present texts and logic."""
     found = {name: fault_of(Path(top), name, kit) for name in crates_with_edits(top) if name not in untried(top)}
     return [f"crates/{name}: {fault}: dev/wrong_bodies {name}" for name, fault in found.items() if fault]

@@ -37,7 +37,7 @@ def copy_parts(source, to, parts=PARTS):
 
 class Room:
     """A folder in which crates and those below them are proved as they stand, as the gate does, in a repository of their
-    own without wrong bodies. What was proved before, here or by the gate, is taken and not proved again."""
+    own without wrong bodies. What was proved before, here or by the gate, is not proved again where the kit keeps it."""
 
     def __init__(self, top, folder, names):
         self.top, self.folder = top, folder

@@ -1,8 +1,8 @@
 """Proves and builds a program by `rt ci`, outside of the checkout, and tells how far that is.
 
 A folder of the user's cache gets a copy of the crates that it stands on, without their wrong bodies, and plain
-`rt ci` proves there: the longest chain first, as many jobs as processors, its libraries as statements. It keeps each
-proof by sums, so that of a gate on this machine counts here, and one from here in the gate.
+`rt ci` proves there: the longest chain first, as many jobs as processors, its libraries as statements. Where the kit
+keeps proofs between runs, it does so by sums: that of a gate on this machine counts here, and one from here in the gate.
 """
 
 import fcntl
@@ -206,7 +206,7 @@ def _tell_why(found):
 def _announce(proof, why):
     below = proof.sources.below
     minutes = Estimate(below, side_by_side()).minutes_left((), (), 0)
-    say(f"{why}: {counted(len(below), 'crate')}, some {counted(minutes, 'minute')}, less where this machine has proved some")
+    say(f"{why}: {counted(len(below), 'crate')}, some {counted(minutes, 'minute')}, less where rt has kept the proofs of some")
 
 
 def _is_as_stored(place, kind):

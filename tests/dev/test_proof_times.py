@@ -118,10 +118,11 @@ class Gate(unittest.TestCase):
             said = times.Said()
             said.read(self.OK + line + kept)
             self.assertEqual(said.done, done)
-        said = times.Said()
-        self.assertEqual(said.done, "-")
-        said.read(self.OK + "every proof and must-fail edit was done in this run")
-        self.assertEqual(said.done, "all")
+        for line in (self.OK + "every proof and must-fail edit was done in this run", "rt: ok; handles allowed: Threads, Wait"):
+            said = times.Said()
+            self.assertEqual(said.done, "-")
+            said.read(line)
+            self.assertEqual(said.done, "all")
 
     def test_table(self):
         """The seconds of crates by what a process was for, as dev/proof_times reads them in the log."""

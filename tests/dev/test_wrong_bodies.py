@@ -49,6 +49,7 @@ fn low::more: not proved
 fn low::twice: no proof: it calls `low::more`, which is not proved
 fn low::kept: proved
 logic=not-proved"""
+KIT, SAME_LOGIC, OTHER_LOGIC = "kit-1 logic 0123", "kit-2 logic 0123", "kit-1 logic 4567"
 
 
 class Sources(unittest.TestCase):
@@ -165,10 +166,10 @@ class Records(InARepository):
     def setUp(self):
         super().setUp()
         rows = [Row(it.name, it.sum, "more", "`returns-else` of it") for it in wrong_edits.edits_of(self.folder)]
-        self.record = Record("kit 1", records.own_sum(self.folder), records.below_sums(self.top, "high"), sorted(rows))
+        self.record = Record(KIT, records.own_sum(self.folder), records.below_sums(self.top, "high"), sorted(rows))
         records.write_record(self.folder, self.record)
 
-    def fault(self, kit="kit 1"):
+    def fault(self, kit=KIT):
         return records.fault_of(self.top, "high", kit)
 
     def test_is_read_as_written(self):
@@ -176,7 +177,13 @@ class Records(InARepository):
         self.assertEqual((self.fault(), self.fault(None)), ("", ""))
 
     def test_another_kit(self):
-        self.assertEqual(self.fault("kit 2"), "they were tried with another kit, kit 1")
+        """A record holds for each kit of the same logic, and for no other."""
+        self.assertEqual(self.fault(SAME_LOGIC), "")
+        self.assertEqual(self.fault(OTHER_LOGIC), f"they were tried with another logic, that of {KIT}")
+        self.assertEqual(self.fault(""), f"they were tried with another logic, that of {KIT}")
+
+    def test_logic(self):
+        self.assertEqual([records.logic_of(it) for it in (KIT, SAME_LOGIC, "kit 1", "")], ["logic 0123", "logic 0123", "kit 1", ""])
 
     def test_changed_text(self):
         self.put("crates/high/proofs/Lib.antt", "mod More\n")
@@ -194,7 +201,7 @@ class Records(InARepository):
         self.assertEqual(self.fault(), "other wrong bodies were tried than it has")
 
     def test_no_record(self):
-        self.assertEqual((records.untried(self.top), records.faults(self.top, "kit 1")), ([], []))
-        self.assertEqual(len(records.faults(self.top, "kit 2")), 1)
+        self.assertEqual((records.untried(self.top), records.faults(self.top, KIT)), ([], []))
+        self.assertEqual(len(records.faults(self.top, OTHER_LOGIC)), 1)
         (self.folder / "wrong/tried.txt").unlink()
-        self.assertEqual((records.untried(self.top), records.faults(self.top, "kit 2")), (["high"], []))
+        self.assertEqual((records.untried(self.top), records.faults(self.top, OTHER_LOGIC)), (["high"], []))
