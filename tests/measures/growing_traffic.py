@@ -5,10 +5,12 @@ from collections import Counter
 
 from launcher import captures
 from launcher.captures import Arrival
-from measure.bounds import Cells, may_grow
 from measure.report import read_report
 
-from .common import TOP
+from .common import TOP, lacks
+
+if not lacks("numpy"):
+    from measure.bounds import Cells, may_grow
 
 PERIODS = 10
 JOBS = TOP / "tests/jobs"
@@ -59,6 +61,7 @@ class Growing(unittest.TestCase):
                 counts = Counter((lines(it), it.slot // slots) for it in arrivals)
                 self.assertEqual(max(counts.values()), cycles * ports + 1)
 
+    @unittest.skipIf(lacks("numpy"), lacks("numpy"))
     def test_contracts_that_it_keeps(self):
         """Where may_grow says so, traffic with a long period keeps the contract; with one port nothing grows."""
         told = 0
