@@ -10,7 +10,7 @@ from launcher.captures import Arrival
 
 LEAST_PORTS = 3
 MOST_PORTS = 64
-MOST_PORTS_MORE_ROUNDS = 40  # Beyond, iSLIP with two rounds or more needs more packets than a job may have.
+MOST_PORTS_MORE_ROUNDS = 40  # Beyond, iSLIP with two rounds or more needs more packets than a job that is not long may have.
 MOST_ROUNDS = 64
 
 
