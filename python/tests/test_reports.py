@@ -12,28 +12,36 @@ QUEUES = (TOP / "tests/measures/data/all_flags_islip.report").read_text()
 DIGITS = "9" * 5000
 
 
+def line_of(text, part):
+    """The line of a text in which a part stands first."""
+    return 1 + text[:text.index(part)].count("\n")
+
+
+PAIR_LINE, QUEUE_LINE = line_of(TEXT, "0>0:0u"), line_of(QUEUES, "queue ")
+
+
 def test_what_is_changed_below():
-    """The first pair stands in line 17, the first queue in line 16; the switches have two and three ports."""
-    assert TEXT.split("\n")[16].endswith(" first 1 0>0:0u") and read_report(TEXT).summary["ports"] == 2
-    assert QUEUES.split("\n")[15].startswith("queue 0>0:0u ") and read_report(QUEUES).summary["ports"] == 3
+    """Both texts have more lines, of a slot with one pair and of a queue; the switches have two and three ports."""
+    assert TEXT.split("\n")[PAIR_LINE - 1].endswith(" first 1 0>0:0u") and read_report(TEXT).summary["ports"] == 2
+    assert QUEUES.split("\n")[QUEUE_LINE - 1].startswith("queue 0>0:0u ") and read_report(QUEUES).summary["ports"] == 3
 
 
 @pytest.mark.parametrize("word", ["9>9:0u", "2>0:0u", "0>2:0u", "00>0:0u", "0>0:4u", "0>0:0x", f"{DIGITS}>0:0u", ""])
 def test_pairs_that_are_none(word):
-    with pytest.raises(BadReport, match="^line 17: "):
+    with pytest.raises(BadReport, match=f"^line {PAIR_LINE}: "):
         read_report(TEXT.replace("0>0:0u", word, 1))
 
 
 @pytest.mark.parametrize("words", ["0>1:0u 0>0:0u", "0>0:0u 1>0:0u", "0>0:0u 0>0:0u"])
 def test_outputs_rise(words):
-    with pytest.raises(BadReport, match="^line 17: "):
+    with pytest.raises(BadReport, match=f"^line {PAIR_LINE}: "):
         read_report(TEXT.replace("0>0:0u", words, 1))
 
 
 @pytest.mark.parametrize("name", ["queue 0>3:0u", "queue 3>1:0u", "queue 0>9:0u", f"queue {DIGITS}>1:0u", "queue 01>1:0u"])
 def test_queues_that_are_none(name):
     found = read_report(QUEUES).queues[0]
-    with pytest.raises(BadReport, match="^line 16: "):
+    with pytest.raises(BadReport, match=f"^line {QUEUE_LINE}: "):
         read_report(QUEUES.replace(f"queue {found.name}", name, 1))
 
 
@@ -51,7 +59,7 @@ def test_last_lines(text):
 
 @pytest.mark.parametrize("number", [DIGITS, "1" * 21, "07", "-1", "+1", "1_0", "\u0663", ""])
 def test_numbers_that_are_none(number):
-    with pytest.raises(BadReport, match="^line 5: ") as told:
+    with pytest.raises(BadReport, match=f"^line {line_of(TEXT, 'packets 3')}: ") as told:
         read_report(TEXT.replace("packets 3", f"packets {number}", 1))
     assert len(str(told.value)) < 80
 

@@ -81,7 +81,7 @@ class Ended:
 
     def report(self) -> List[str]:
         """The lines of the report behind the summary."""
-        return self.files["out.report"].decode().splitlines()[12:]
+        return self.files["out.report"].decode().splitlines()[len(self.summary()):]
 
 
 def run(table: bytes, inputs: Sequence[bytes], options: str = "", command: str = "run", **how: Any) -> Ended:

@@ -173,9 +173,9 @@ class Jobs(unittest.TestCase):
         rng = random.Random(SEED)
         ended = [by_model(Drawn(rng)) for _ in range(30)]
         self.assertLessEqual({it["status"] for it in ended}, {0, 4})
-        ran = [it["stdout"].decode().split() for it in ended if it["status"] == 0]
+        ran = [map(str.split, it["stdout"].decode().splitlines()) for it in ended if it["status"] == 0]
         self.assertGreater(len(ran), 25)
-        numbers = [dict(zip(it[:22:2], map(int, it[1:22:2]))) for it in ran]
+        numbers = [{name: int(first) for name, first, *_ in lines} for lines in ran]
         self.assertGreater(sum(it["slots"] > 10 * (1 + it["cells"]) for it in numbers), 8)
         for name in ("unrouted", "dropped", "forwarded"):
             self.assertTrue(any(it[name] for it in numbers))
