@@ -1,0 +1,11 @@
+pub mod Vecs
+pub mod Captures
+pub mod Tables
+pub mod FilesRead
+pub mod PortPlans
+pub mod LateCauses
+pub mod Plans
+pub mod JobLimits
+pub mod MadeBytes
+pub mod Outcomes
+pub mod Given
