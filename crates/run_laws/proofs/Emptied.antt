@@ -100,13 +100,18 @@ module _ (scheduler : Scheduler) (plan : SwitchPlan) where
   last_more i t inside done = false_from_ne_true (posts_under scheduler plan i t).more (no_more i t inside done)
 
 module _ (scheduler : Scheduler) (scheduling : IsScheduler scheduler) (plan : SwitchPlan) (good : IsGood plan) where
-  pub last_row : (i t : ℕ) → i < ports_of plan → is_done_at (ports_of plan) (posts_under scheduler plan) t ≡ true
-      → IsEmptyRow (row_at (card_at plan i) (parts_under scheduler plan i (suc t)) t)
-  last_row i t inside done =
+  -- nor posts it anything
+  pub last_post : (i t : ℕ) → i < ports_of plan → is_done_at (ports_of plan) (posts_under scheduler plan) t ≡ true
+      → IsEmptyRow (posts_under scheduler plan i t).row
+  last_post i t inside done =
       let card = card_at plan i in
       let row = row_at card (parts_under scheduler plan i t) t in
       let more = or_parts (list_any (λ packet. nat_lt t packet.arrival) card.packets) (not (is_empty row)) (last_more scheduler plan i t inside done) in
-      subst IsEmptyRow (sym (row_at-same scheduler plan i t (suc t) (omega arith))) ((Decides-is_empty row).0 (not-false (is_empty row) more.1))
+      (Decides-is_empty row).0 (not-false (is_empty row) more.1)
+
+  pub last_row : (i t : ℕ) → i < ports_of plan → is_done_at (ports_of plan) (posts_under scheduler plan) t ≡ true
+      → IsEmptyRow (row_at (card_at plan i) (parts_under scheduler plan i (suc t)) t)
+  last_row i t inside done = subst IsEmptyRow (sym (row_at-same scheduler plan i t (suc t) (omega arith))) (last_post i t inside done)
 
   pub all_delivered : (i j level : ℕ) (kind : Kind) (t : ℕ) → i < ports_of plan → j < ports_of plan → level < LEVELS
       → is_done_at (ports_of plan) (posts_under scheduler plan) t ≡ true

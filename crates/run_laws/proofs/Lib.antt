@@ -22,6 +22,7 @@ pub mod WaitingPackets
 pub mod LineRate
 pub mod RunWindows
 pub mod RunCompletes
+pub mod InTime
 pub mod Driven
 pub mod Finished
 pub mod Given

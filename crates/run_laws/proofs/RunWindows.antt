@@ -1,5 +1,5 @@
 -- Slots of a run are windows of its schedule, in which a queue waits no longer than the longest service.
-use Rattle.std.proofs.Common.{◌≡◌, ◌∙◌, ℕ, zero, suc, ◌+◌, ◌-◌, ◌<◌, ◌≤◌, List, All, map, take, drop, length, refl, sym, ap, subst, arith}
+use Rattle.std.proofs.Common.{◌≡◌, ◌∙◌, ℕ, zero, suc, ◌+◌, ◌<◌, ◌≤◌, List, All, map, take, drop, length, refl, sym, ap, subst, arith}
 use Rattle.std.specs.Prelude.{slice_index_or, Any}
 use Rattle.std.specs.List.{range_with_len}
 use Rattle.std.proofs.lemmas.List.FromFn.{length-map-range_with_len, get_or-map-range_with_len}

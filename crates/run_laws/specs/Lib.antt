@@ -3,4 +3,5 @@ pub mod Ends
 pub mod Crossings
 pub mod Sums
 pub mod Promises
+pub mod InTime
 pub mod RunSteps

@@ -4,6 +4,10 @@ ghost use Rattle.std.specs.Prelude.{ℕ};
 ghost use Rattle.eslip_rounds.specs.Schedulers.{Scheduler};
 ghost use Rattle.service_bound.specs.Windows.{AreAtLineRate};
 ghost use Rattle.switch_plan.specs.GoodPlans.{SwitchPlan, IsGood};
+ghost use Rattle.eslip_rounds.specs.Decisions.{decision_of};
+ghost use Rattle.service_bound.specs.Waits.{longest_service_by};
+ghost use Rattle.run_laws.specs.Ends.{IsLength};
+ghost use Rattle.run_laws.specs.InTime.{CompletesInTimeUnder, ServesInTimeUnder};
 ghost use Rattle.run_laws.specs.Promises.{CompletesMulticast, ServesWaiting, WaitsAreShort};
 ghost use Rattle.run_laws.specs.Runs.{ports_of};
 ghost use Rattle.run_laws.specs.Sums.{schedule_under};
@@ -32,4 +36,18 @@ pub fn best_level_waits_are_short()
 /// head that is posted in the first completes in one of them, whatever unicast is posted.
 pub fn multicast_heads_complete()
     ensures { (plan : SwitchPlan) (slots : ℕ) → IsGood plan → CompletesMulticast plan slots }
+{}
+
+/// So in a run of any length: a unicast queue that is posted is served within as many slots as `longest_service()` of
+/// `service_bound` tells, or before the run's end, where in these slots its output is asked as unicast of the level
+/// alone, and by inputs that ask nothing better. What others ask of other outputs does not count.
+pub fn waiting_queues_are_served_in_time()
+    ensures { (plan : SwitchPlan) (slots : ℕ) → IsGood plan → IsLength plan slots
+        → ServesInTimeUnder decision_of plan slots (longest_service_by (ports_of plan) plan.rounds) }
+{}
+
+/// And a multicast head that is posted completes within `2 * n` slots, or before the run's end, where nothing of a better
+/// level is posted in these.
+pub fn multicast_heads_complete_in_time()
+    ensures { (plan : SwitchPlan) (slots : ℕ) → IsGood plan → IsLength plan slots → CompletesInTimeUnder decision_of plan slots }
 {}
