@@ -205,7 +205,8 @@ pub failed : {T E : Type 0} (P : Type 0) (r : Result T E) → IsErr r → OnOk r
 failed P r err = IfOk-from_err r (λ _. P) err
 
 -- before slot 0 no packet has come
-pub first-noted : (plan : Plan) (input : Input) → length plan.packets < 2 ^ 32 → CountBefore plan input.counters [] → input.admitted ≡ [] → IsNoted plan input []
+pub first-noted : (plan : Plan) (input : Input) → length plan.packets < 2 ^ 32 → CountBefore plan input.counters [] → input.admitted ≡ []
+    → IsNoted plan input []
 first-noted plan input few counts none =
     let zero_ : IsNext plan.packets 0 0 = record {
       within = omega arith;

@@ -61,16 +61,17 @@ module _ (scheduler : Scheduler) (plan : SwitchPlan) (slot next : ℕ) (gap : Is
   module _ (i : ℕ) (inside : i < ports_of plan) (input : Input) (was : IsNoted (card_at plan i) input (parts_under scheduler plan i slot)) where
     kept-input : IsNoted (card_at plan i) input (parts_under scheduler plan i next)
     kept-input =
+        let card = card_at plan i in
+        let before = parts_under scheduler plan i slot in
         let long = served-length scheduler plan i slot in
+        let parts = gap-parts scheduler plan slot next gap i in
         record {
           few = was.few;
-          counts = kept-counts (card_at plan i) (parts_under scheduler plan i slot) (parts_under scheduler plan i next) slot next long
-              (gap-ahead scheduler plan slot next gap) (gap-parts scheduler plan slot next gap i) input.counters was.counts (gap.none i inside)
-              (gap-queues scheduler plan slot next gap i inside);
+          counts = kept-counts card before (parts_under scheduler plan i next) slot next long (gap-ahead scheduler plan slot next gap) parts
+              input.counters was.counts (gap.none i inside) (gap-queues scheduler plan slot next gap i inside);
           admitted = was.admitted
-              ∙ all-later (card_at plan i) (parts_under scheduler plan i slot) (replicate (next - slot) None)
-              (length (parts_under scheduler plan i slot)) input.counters.next was.counts.next (omega arith)
-              ∙ ap (λ ps. map (was_admitted (card_at plan i) ps) (take input.counters.next (card_at plan i).packets)) (sym (gap-parts scheduler plan slot next gap i));
+              ∙ all-later card before (replicate (next - slot) None) (length before) input.counters.next was.counts.next (omega arith)
+              ∙ ap (λ ps. map (was_admitted card ps) (take input.counters.next card.packets)) (sym parts);
         }
 
   -- the match of the slot before is that of no pairs
