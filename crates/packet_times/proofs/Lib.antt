@@ -5,9 +5,12 @@ mod Noted
 mod Gaps
 mod Texts
 mod Told
+mod Putting
+mod Rowing
 mod Counted
 mod Walked
-mod Rowing
+mod Walks
+mod KeptTexts
 mod Telling
 mod Summing
 mod Asides

@@ -17,7 +17,7 @@ use Rattle.packet_times.specs.declared.state.PacketState.{PacketState}
 use Rattle.packet_times.specs.declared.state.PacketState.TheVariants.{Forwarded, Dropped, Unrouted, Oversize}
 use Rattle.packet_times.specs.Rows.{state_of, state_name, routed_row, aside_row, outputs_in, packet_rows}
 use Rattle.packet_times.specs.Sums.{tells}
-use Rattle.packet_times.specs.WalkingSteps.{row_to, rows_to}
+use Rattle.packet_times.specs.WalkingSteps.{row_to}
 
 -- ---- states
 -- whether a state has the other's name
@@ -113,6 +113,9 @@ module _ (scheduler : Scheduler) (plan : SwitchPlan) (slots i k : ℕ) (p : Plan
   abbrev outputs : List ℕ
   outputs = outputs_in (ports_of plan) p.fan
 
+  abbrev routed_rows : List (List (List ℕ))
+  routed_rows = map (row_to scheduler plan slots i k p) outputs
+
   abbrev aside : List (List (List ℕ))
   aside = aside_row i k p state ∷ []
 
@@ -120,10 +123,10 @@ module _ (scheduler : Scheduler) (plan : SwitchPlan) (slots i k : ℕ) (p : Plan
       → list_any (tells s) (packet_rows scheduler plan slots i k p) ≡ is_state state s
   rows-tell s some = elim (cases_Bool (is_routed p)) [
     | inl routed ↦
-        ap (list_any (tells s)) (cond-true (is_routed p) (rows_to scheduler plan slots i k p p.fan) aside routed)
+        ap (list_any (tells s)) (cond-true (is_routed p) routed_rows aside routed)
         ∙ any-same (tells s) (row_to scheduler plan slots i k p) (is_state state s) (λ j. tells-routed s i k p state j _) outputs (some routed)
     | inr nowhere ↦
-        ap (list_any (tells s)) (cond-false (is_routed p) (rows_to scheduler plan slots i k p p.fan) aside nowhere)
+        ap (list_any (tells s)) (cond-false (is_routed p) routed_rows aside nowhere)
         ∙ or-false (tells s (aside_row i k p state))
         ∙ tells-aside s i k p state
   ]
@@ -135,13 +138,12 @@ module _ (scheduler : Scheduler) (plan : SwitchPlan) (slots i k : ℕ) (p : Plan
       let r = is_routed p in
       let a = is_admitted (card_at plan i) (parts_under scheduler plan i slots) p.arrival p in
       let is : is_state state Forwarded ≡ r && a = forwarded-if r a _ in
-      let row = row_to scheduler plan slots i k p in
-      let routed : count_by (tells Forwarded) (map row outputs) ≡ (if r && a then length outputs else 0) =
-      count-same (tells Forwarded) row (r && a) (λ j. tells-routed Forwarded i k p state j _ ∙ is) outputs in
+      let routed : count_by (tells Forwarded) routed_rows ≡ (if r && a then length outputs else 0) =
+      count-same (tells Forwarded) (row_to scheduler plan slots i k p) (r && a) (λ j. tells-routed Forwarded i k p state j _ ∙ is) outputs in
       let one : count_by (tells Forwarded) aside ≡ (if r && a then 1 else 0) =
       zero-add (cond (tells Forwarded (aside_row i k p state)) 1 0)
       ∙ ap (λ (b : Bool). cond {A = ℕ} b 1 0) (tells-aside Forwarded i k p state ∙ is) in
-      either r a (map row outputs) aside routed one ∙ ap (λ n. if r && a then n else 0) (length-filter (has p.fan) (range_with_len 0 (ports_of plan)))
+      either r a routed_rows aside routed one ∙ ap (λ n. if r && a then n else 0) (length-filter (has p.fan) (range_with_len 0 (ports_of plan)))
       ∙ spread r a (has p.fan) (range_with_len 0 (ports_of plan))
     where
       either : (r a : Bool) (rows one : List (List (List ℕ))) → count_by (tells Forwarded) rows ≡ (if r && a then length outputs else 0)

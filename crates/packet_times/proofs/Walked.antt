@@ -1,16 +1,15 @@
 -- The packets of an input, one after the other: what of each is counted, and its departures.
-use Rattle.std.proofs.Common.{◌≡◌, ◌∙◌, ℕ, ◌+◌, ◌-◌, ◌^◌, ◌<◌, ◌≤◌, ◌==◌, ◌&&◌, Bool, true, false, List, [], length, take, Some, slice_get}
+use Rattle.std.proofs.Common.{◌≡◌, ◌∙◌, ℕ, ◌+◌, ◌-◌, ◌^◌, ◌<◌, ◌==◌, ◌&&◌, Bool, true, false, List, [], length, take, Some, slice_get}
 use Rattle.std.proofs.Common.{slice_index, slice_index_or, refl, sym, ap, subst, arith, replicate, length-take, if◌then◌else◌}
 use Rattle.std.proofs.lemmas.Bool.{eqb-true, eq-eqb, lt-ltb, both_ways}
-use Rattle.std.proofs.lemmas.List.{get_or_default, length-replicate}
+use Rattle.std.proofs.lemmas.List.{length-replicate}
 use Rattle.std.proofs.lemmas.List.Sums.{count_by-le-length, count_by_more_yes, count_by_more_no}
-use Rattle.std.proofs.lemmas.Option.{get_or_from_slice_get, slice_get-get_or, slice_get_within}
+use Rattle.std.proofs.lemmas.Option.{get_or_from_slice_get, slice_get_within}
 use Rattle.std_lemmas.proofs.Lists.{get_or-same}
 use Rattle.run_laws.proofs.FlowCells.{level_to, kind_to}
 use Rattle.rotating_pick.proofs.Members.{only_member}
 use Rattle.card_core.proofs.After.{level-queue}
 use Rattle.rotating_pick.specs.PortSets.{Has}
-use Rattle.rotating_pick.specs.declared.kinds.Kind.{Kind}
 use Rattle.rotating_pick.specs.declared.limits.TheConstants.{LEVELS, MAX_PORTS}
 use Rattle.eslip_rounds.specs.Schedulers.{Scheduler}
 use Rattle.slot_histories.specs.Tests.{has}
@@ -25,9 +24,9 @@ use Rattle.run_laws.specs.Crossings.{queue_to}
 use Rattle.run_laws.proofs.Base.{good-card, served-length}
 use Rattle.packet_departures.specs.Departures.{Flow, flow_of, ends_of, goes_by, earlier_by, departure_under}
 use Rattle.packet_times.specs.declared.going.TheConstants.{MOST_FLOWS}
-use Rattle.packet_times.specs.declared.walk.Outcome.{Outcome}
-use Rattle.packet_times.specs.NotingSteps.{Input, Times, no_input, IsFlow, IsNoted, flow_place, was_admitted, HasNoted}
-use Rattle.packet_times.specs.WalkingSteps.{own_place, one_more, IsCounted, HasGone, IsOutcome}
+use Rattle.packet_times.specs.NotingSteps.{Times, no_input, IsFlow, flow_place, was_admitted, HasNoted}
+use Rattle.packet_times.specs.WalkingSteps.{own_place, one_more, IsCounted, HasGone}
+use Rattle.packet_times.specs.KeptRows.{kept_ports}
 use Rattle.packet_times.proofs.Places.{kind_few, kind_same}
 use Rattle.packet_times.proofs.Told.{admitted-at}
 
@@ -172,64 +171,38 @@ gone-first scheduler plan slots input = record {
   each = λ flow is e. get_or-same 0 MOST_FLOWS (own_place flow.output flow.level flow.kind);
 }
 
--- ---- the departures of a packet
+-- ---- what is kept of a packet
 module _ (scheduler : Scheduler) (plan : SwitchPlan) (slots : ℕ) (times : Times) (noted : HasNoted scheduler plan times slots) where
-  pub few-inputs : length times.inputs ≤ MAX_PORTS
-  few-inputs = let few = noted.good.size.most in let long = noted.count in omega (arith, few, long)
+  pub ports-kept : kept_ports times ≡ ports_of plan
+  ports-kept = omega (arith, noted.count, noted.good.size.most)
 
-  module _ (outcome : Outcome) (is : IsOutcome scheduler plan slots outcome) where
-    pub planned-is : IsPlanned (ports_of plan) (length (card_at plan outcome.input).bytes) outcome.packet
+  module _ (i k : ℕ) (p : Planned) (inside : i < ports_of plan) (at : slice_get (card_at plan i).packets k ≡ Some p) where
+    pub planned-is : IsPlanned (ports_of plan) (length (card_at plan i).bytes) p
     planned-is =
-        let card = good-card plan noted.good outcome.input is.input in
-        subst (λ n. IsPlanned n (length (card_at plan outcome.input).bytes) outcome.packet) card.ports
-        (card.good.packets outcome.number outcome.packet is.packet)
+        let card = good-card plan noted.good i inside in
+        subst (λ n. IsPlanned n (length (card_at plan i).bytes) p) card.ports (card.good.packets k p at)
 
-    pub departure-is : (output : ℕ) (counts : List ℕ) (kind : Kind) → kind ≡ kind_of (queue_of outcome.packet) → output < ports_of plan
-        → HasGone scheduler plan slots outcome.input outcome.number counts
+    -- whether it was admitted
+    pub admitted-is : ArrivalsComeFirst plan slots → slice_index_or (slice_index_or times.inputs i no_input).admitted k false
+        ≡ was_admitted (card_at plan i) (parts_under scheduler plan i slots) p
+    admitted-is come =
+        admitted-at (card_at plan i) (slice_index_or times.inputs i no_input) (parts_under scheduler plan i slots) (noted.each i inside)
+        (λ j less. let early = come i inside j no_packet less in let long = served-length scheduler plan i slots in omega (arith, early, long))
+        k (slice_get_within (card_at plan i).packets k p at)
+        ∙ ap (was_admitted (card_at plan i) (parts_under scheduler plan i slots)) (get_or_from_slice_get (card_at plan i).packets k p no_packet at)
+
+    -- when it left
+    pub departure-is : (j : ℕ) (counts : List ℕ) → j < ports_of plan → HasGone scheduler plan slots i k counts
         → slice_get (slice_index_or times.ends
-        (flow_place (ports_of plan) (record { input = outcome.input; output = output; level = outcome.packet.level; kind = kind })) [])
-        (slice_index counts (own_place output outcome.packet.level kind))
-        ≡ departure_under scheduler plan slots outcome.input output outcome.number outcome.packet
-    departure-is output counts kind same inside gone =
-        let flow = flow_of outcome.input output outcome.packet in
-        let low : level_of (queue_of outcome.packet) < LEVELS = subst (λ l. l < LEVELS) (sym (level-queue outcome.packet)) planned-is.level in
-        let flows : IsFlow (ports_of plan) flow = record { input = is.input; output = inside; level = low } in
+        (flow_place (ports_of plan) (record { input = i; output = j; level = p.level; kind = kind_of (queue_of p) })) [])
+        (slice_index counts (own_place j p.level (kind_of (queue_of p))))
+        ≡ departure_under scheduler plan slots i j k p
+    departure-is j counts below gone =
+        let flow = flow_of i j p in
+        let low : level_of (queue_of p) < LEVELS = subst (λ l. l < LEVELS) (sym (level-queue p)) planned-is.level in
+        let flows : IsFlow (ports_of plan) flow = record { input = inside; output = below; level = low } in
         ap (λ (l : ℕ). slice_get (slice_index_or times.ends
-        (flow_place (ports_of plan) (record { input = outcome.input; output = output; level = l; kind = kind })) [])
-        (slice_index counts (own_place output l kind))) (sym (level-queue outcome.packet))
-        ∙ ap (λ (k : Kind). slice_get
-        (slice_index_or times.ends (flow_place (ports_of plan) (record { input = outcome.input; output = output; level = flow.level; kind = k })) [])
-        (slice_index counts (own_place output flow.level k))) same
-        ∙ ap (λ (ends : List ℕ). slice_get ends (slice_index counts (own_place output flow.level flow.kind))) (noted.ends flow flows)
+        (flow_place (ports_of plan) (record { input = i; output = j; level = l; kind = kind_of (queue_of p) })) [])
+        (slice_index counts (own_place j l (kind_of (queue_of p))))) (sym (level-queue p))
+        ∙ ap (λ (ends : List ℕ). slice_get ends (slice_index counts (own_place j flow.level flow.kind))) (noted.ends flow flows)
         ∙ ap (slice_get (ends_of scheduler plan flow slots)) (gone.each flow flows refl)
-
-  -- ---- an input of the times
-  module _ (input : ℕ) where
-    pub few-own : input < ports_of plan → length (card_at plan input).packets < 2 ^ 32
-    few-own inside = (noted.each input inside).few
-
-    module _ (own : Input) (inside : input < ports_of plan) (mine : own ≡ slice_index_or times.inputs input own) where
-      own-noted : IsNoted (card_at plan input) own (parts_under scheduler plan input slots)
-      own-noted =
-          subst (λ (x : Input). IsNoted (card_at plan input) x (parts_under scheduler plan input slots))
-          (get_or_default times.inputs input no_input own (let count = noted.count in omega (arith, count, inside)) ∙ sym mine) (noted.each input inside)
-
-      pub own-packets : own.counters.packets ≡ (card_at plan input).packets
-      own-packets = own-noted.counts.packets
-
-      pub own-admitted : ArrivalsComeFirst plan slots → (k : ℕ) (admitted : Bool) → k < length (card_at plan input).packets
-          → admitted ≡ slice_index_or own.admitted k false
-          → admitted ≡ was_admitted (card_at plan input) (parts_under scheduler plan input slots) (slice_index_or (card_at plan input).packets k no_packet)
-      own-admitted come k admitted low is =
-          is ∙ admitted-at (card_at plan input) own (parts_under scheduler plan input slots) own-noted
-          (λ j less. let early = come input inside j no_packet less in let long = served-length scheduler plan input slots in omega (arith, early, long)) k low
-
-      pub own-outcome : ArrivalsComeFirst plan slots → (k : ℕ) (admitted : Bool) → k < length (card_at plan input).packets
-          → admitted ≡ slice_index_or own.admitted k false
-          → IsOutcome scheduler plan slots
-          (record { input = input; number = k; packet = slice_index_or (card_at plan input).packets k no_packet; admitted = admitted })
-      own-outcome come k admitted low is = record {
-        input = inside;
-        packet = slice_get-get_or (card_at plan input).packets k no_packet low;
-        admitted = own-admitted come k admitted low is;
-      }

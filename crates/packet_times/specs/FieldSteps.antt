@@ -1,19 +1,22 @@
 -- What the rows of the packets file are made of.
 use Rattle.std.specs.Prelude.{ℕ, List, [], ◌∷◌, map, decimal}
 use Rattle.packet_times.specs.declared.fields.Field.{Field}
-use Rattle.packet_times.specs.declared.fields.Field.TheVariants.{Empty, Name, Number}
-use Rattle.packet_times.specs.Rows.{row_text}
+use Rattle.packet_times.specs.declared.fields.Field.TheVariants.{Empty, State, Letter, Number}
+use Rattle.packet_times.specs.declared.fields.Row.{Row}
+use Rattle.slot_report.specs.Texts.{letter_of}
+use Rattle.packet_times.specs.Rows.{state_name}
 
 -- the bytes of a field
 abbrev pub field_text : Field → List ℕ
 field_text Empty = []
-field_text (Name name) = name.now
+field_text (State state) = state_name state
+field_text (Letter kind) = letter_of kind
 field_text (Number n) = decimal n
 
 -- a field after a comma
 abbrev pub after_comma : Field → List ℕ
 after_comma field = 44 ∷ field_text field
 
--- the line of an input's number and these fields
-abbrev pub fields_text : ℕ → List Field → List ℕ
-fields_text input fields = row_text (decimal input ∷ map field_text fields)
+-- the fields of a row, as texts
+abbrev pub texts_of : Row → List (List ℕ)
+texts_of row = decimal row.input ∷ map field_text row.fields

@@ -1,6 +1,5 @@
 -- What single steps of noting a slot add to what is kept.
 use Rattle.std.specs.Prelude.{◌≡◌, ◌≢◌, ◌<◌, ◌≤◌, ◌+◌, ◌++◌, ℕ, true, false, if◌then◌else◌, List, [], ◌∷◌, length, map, take, Option, slice_index_or}
-use Rattle.std.specs.List.{flat_map, enumerate_from}
 use Rattle.cell_cutter.specs.declared.cell.Cell.{Cell}
 use Rattle.slot_match.specs.declared.matching.Served.{Served}
 use Rattle.eslip_rounds.specs.Schedulers.{Scheduler}
@@ -9,7 +8,6 @@ use Rattle.queue_lengths.specs.Counters.{CountIn}
 use Rattle.switch_plan.specs.GoodPlans.{SwitchPlan}
 use Rattle.run_laws.specs.Runs.{ports_of, card_at, parts_under}
 use Rattle.packet_departures.specs.Departures.{Flow, is_end_of}
-use Rattle.packet_times.specs.Rows.{row_text, packet_rows}
 use Rattle.packet_times.specs.NotingSteps.{Input, no_input, IsFlow, flow_place, was_admitted, IsNoted}
 
 -- what a slot adds to the ends of a flow, of the cell that crosses to its output
@@ -60,7 +58,3 @@ pub record AreNoted (scheduler : Scheduler) (plan : SwitchPlan) (slots first : �
   pub count : length inputs ≡ ports_of plan
   pub done : (i : ℕ) → i < ports_of plan → i < first → IsNoted (card_at plan i) (slice_index_or inputs i no_input) (parts_under scheduler plan i (slots + 1))
   pub left : (i : ℕ) → i < ports_of plan → first ≤ i → IsNoted (card_at plan i) (slice_index_or inputs i no_input) (parts_under scheduler plan i slots)
-
--- the rows of an input's packets
-abbrev pub input_text : Scheduler → SwitchPlan → ℕ → ℕ → List ℕ
-input_text scheduler plan slots i = flat_map row_text (flat_map (λ p. packet_rows scheduler plan slots i p.0 p.1) (enumerate_from 0 (card_at plan i).packets))

@@ -1,6 +1,5 @@
 -- The walk over the packets of an input: how many of them went by each of its flows.
-use Rattle.std.specs.Prelude.{◌≡◌, ◌≢◌, ◌<◌, ◌+◌, ◌*◌, ℕ, nat_lt, if◌then◌else◌, List, map, length, Some, slice_get, slice_set, slice_index}
-use Rattle.std.specs.List.{flat_map}
+use Rattle.std.specs.Prelude.{◌≡◌, ◌≢◌, ◌+◌, ◌*◌, ℕ, nat_lt, if◌then◌else◌, List, length, slice_set, slice_index}
 use Rattle.rotating_pick.specs.declared.kinds.Kind.{Kind}
 use Rattle.reassembly.specs.declared.limits.TheConstants.{FLOWS_PER_INPUT}
 use Rattle.eslip_rounds.specs.Schedulers.{Scheduler}
@@ -9,9 +8,8 @@ use Rattle.switch_plan.specs.GoodPlans.{SwitchPlan}
 use Rattle.run_laws.specs.Runs.{ports_of, card_at, parts_under}
 use Rattle.packet_departures.specs.Departures.{Flow, earlier_by, departure_under}
 use Rattle.packet_times.specs.declared.going.TheConstants.{MOST_FLOWS}
-use Rattle.packet_times.specs.declared.walk.Outcome.{Outcome}
-use Rattle.packet_times.specs.NotingSteps.{IsFlow, kind_place, was_admitted}
-use Rattle.packet_times.specs.Rows.{row_text, state_of, routed_row, departure_if, outputs_in, packet_rows}
+use Rattle.packet_times.specs.NotingSteps.{IsFlow, kind_place}
+use Rattle.packet_times.specs.Rows.{state_of, routed_row, departure_if}
 
 -- the place of a flow among those of its input
 abbrev pub own_place : ℕ → ℕ → Kind → ℕ
@@ -37,22 +35,8 @@ pub record HasGone (scheduler : Scheduler) (plan : SwitchPlan) (slots input k : 
   pub each : (flow : Flow) → IsFlow (ports_of plan) flow → flow.input ≡ input
       → slice_index counts (own_place flow.output flow.level flow.kind) ≡ earlier_by scheduler plan slots flow k
 
--- it is a packet of the plan
-pub record IsOutcome (scheduler : Scheduler) (plan : SwitchPlan) (slots : ℕ) (outcome : Outcome) : Type 0 where
-  pub input : outcome.input < ports_of plan
-  pub packet : slice_get (card_at plan outcome.input).packets outcome.number ≡ Some outcome.packet
-  pub admitted : outcome.admitted ≡ was_admitted (card_at plan outcome.input) (parts_under scheduler plan outcome.input slots) outcome.packet
-
 -- the row of a routed packet to an output
 abbrev pub row_to : Scheduler → SwitchPlan → ℕ → ℕ → ℕ → Planned → ℕ → List (List ℕ)
 row_to scheduler plan slots i k packet j =
     let state = state_of (card_at plan i) (parts_under scheduler plan i slots) packet in
     routed_row i k packet state j (departure_if state (departure_under scheduler plan slots i j k packet))
-
--- the rows of a routed packet to the outputs of a set
-abbrev pub rows_to : Scheduler → SwitchPlan → ℕ → ℕ → ℕ → Planned → ℕ → List (List (List ℕ))
-rows_to scheduler plan slots i k packet outputs = map (row_to scheduler plan slots i k packet) (outputs_in (ports_of plan) outputs)
-
--- the lines of a packet
-abbrev pub outcome_text : Scheduler → SwitchPlan → ℕ → Outcome → List ℕ
-outcome_text scheduler plan slots outcome = flat_map row_text (packet_rows scheduler plan slots outcome.input outcome.number outcome.packet)

@@ -1,27 +1,42 @@
-ghost use Rattle.std.specs.Prelude.{◌≡◌, ◌++◌, OnOk, string_bytes};
+ghost use Rattle.std.specs.Prelude.{◌≡◌, ◌+◌, ◌*◌, ◌≤◌, ◌++◌, length, OnOk, string_bytes};
 ghost use Rattle.std.specs.List.{flat_map};
-ghost use Rattle.packet_times.specs.Rows.{state_name};
-ghost use Rattle.packet_times.specs.FieldSteps.{field_text, after_comma, fields_text};
+ghost use Rattle.slot_report.specs.Texts.{letter_of};
+ghost use Rattle.packet_times.specs.Rows.{state_name, row_text};
+ghost use Rattle.packet_times.specs.FieldSteps.{field_text, after_comma, texts_of};
+ghost use Rattle.packet_times.specs.PuttingSteps.{IsPut};
 
 use crate::state::PacketState;
 use itoa::Buffer;
+use rotating_pick::Kind;
 use std::alloc::AllocError;
 
 /// The fields of a row after the input's number.
 pub(crate) const FIELDS: usize = 10;
 
-/// A field of a row.
+/// More bytes than a row has: 21 for each field.
+pub(crate) const MOST_ROW_BYTES: usize = 256;
+
+/// A field of a row: it has at most 20 bytes.
 #[derive(Clone, Copy)]
-pub(crate) enum Field<'a> {
+pub(crate) enum Field {
     Empty,
-    Name(&'a str),
+    State(PacketState),
+    Letter(Kind),
     /// In decimal digits.
     Number(u64),
 }
 
-/// The name of a state.
-pub(crate) fn name_of(state: PacketState) -> &'static str
-    ensures { result.now ≡ state_name state }
+/// A row: the input's number, and the other fields.
+#[derive(Clone, Copy)]
+pub(crate) struct Row {
+    pub(crate) input: usize,
+    pub(crate) fields: [Field; FIELDS],
+}
+
+// The name of a state.
+fn name_of(state: PacketState) -> &'static str
+    ensures name { result.now ≡ state_name state }
+    ensures short { length result.now ≤ 20 }
 {
     match state {
         PacketState::Forwarded => "forwarded",
@@ -31,33 +46,96 @@ pub(crate) fn name_of(state: PacketState) -> &'static str
     }
 }
 
+// The letter of a kind.
+fn letter(kind: Kind) -> &'static str
+    ensures name { result.now ≡ letter_of kind }
+    ensures short { length result.now ≤ 20 }
+{
+    match kind {
+        Kind::Uni => "u",
+        Kind::Multi => "m",
+    }
+}
+
+/// Puts bytes at a place, and answers the place after them.
+pub(crate) fn put_bytes(buf: &mut [u8], at: usize, bytes: &[u8]) -> usize
+    requires { at + length bytes.now ≤ length buf.old }
+    ensures { IsPut buf.old at bytes.now buf.new result }
+{
+    let end = at + bytes.len();
+    buf[at..end].copy_from_slice(bytes);
+    end
+}
+
+// Puts a field at a place, and answers the place after it.
+fn put_field(buf: &mut [u8], at: usize, field: &Field) -> usize
+    requires { at + 20 ≤ length buf.old }
+    ensures put { IsPut buf.old at (field_text field.now) buf.new result }
+    ensures short { result ≤ at + 20 }
+{
+    match *field {
+        Field::Empty => at,
+        Field::State(state) => put_bytes(buf, at, name_of(state).as_bytes()),
+        Field::Letter(kind) => put_bytes(buf, at, letter(kind).as_bytes()),
+        Field::Number(number) => {
+            let mut digits = Buffer::new();
+            put_bytes(buf, at, digits.format(number).as_bytes())
+        }
+    }
+}
+
+// Puts the fields, each after a comma, and answers the place after them.
+fn put_fields(buf: &mut [u8], at: usize, fields: &[Field]) -> usize
+    requires { at + 21 * length fields.now ≤ length buf.old }
+    ensures put { IsPut buf.old at (flat_map after_comma fields.now) buf.new result }
+    ensures short { result ≤ at + 21 * length fields.now }
+{
+    let mut end = at;
+    for field in fields {
+        end = put_bytes(buf, end, b",");
+        end = put_field(buf, end, field);
+    }
+    end
+}
+
+/// Puts the line of a row at a place, and answers the place after it.
+pub(crate) fn put_row(buf: &mut [u8], at: usize, row: &Row) -> usize
+    requires { at + MOST_ROW_BYTES ≤ length buf.old }
+    ensures { IsPut buf.old at (row_text (texts_of row.now)) buf.new result }
+{
+    let input = put_field(buf, at, &Field::Number(row.input as u64));
+    let fields = put_fields(buf, input, &row.fields);
+    put_bytes(buf, fields, b"\n")
+}
+
 // Appends a field.
-fn put_field(text: &mut String, field: &Field) -> Result<(), AllocError>
+fn push_field(text: &mut String, field: &Field) -> Result<(), AllocError>
     ensures { OnOk result (string_bytes text.new ≡ string_bytes text.old ++ field_text field.now) }
 {
     match *field {
         Field::Empty => Ok(()),
-        Field::Name(name) => text.push_str(name),
+        Field::State(state) => text.push_str(name_of(state)),
+        Field::Letter(kind) => text.push_str(letter(kind)),
         Field::Number(number) => text.push_str(Buffer::new().format(number)),
     }
 }
 
 // Appends the fields, each after a comma.
-fn put_fields(text: &mut String, fields: &[Field]) -> Result<(), AllocError>
+fn push_fields(text: &mut String, fields: &[Field]) -> Result<(), AllocError>
     ensures { OnOk result (string_bytes text.new ≡ string_bytes text.old ++ flat_map after_comma fields.now) }
 {
     for field in fields {
         text.push_str(",")?;
-        put_field(text, field)?;
+        push_field(text, field)?;
     }
     Ok(())
 }
 
-/// Appends the line of an input's number and these fields.
-pub(crate) fn put_row(text: &mut String, input: u32, fields: &[Field]) -> Result<(), AllocError>
-    ensures { OnOk result (string_bytes text.new ≡ string_bytes text.old ++ fields_text input fields.now) }
+/// Appends the line of a row.
+pub(crate) fn push_row(text: &mut String, row: &Row) -> Result<(), AllocError>
+    ensures { OnOk result (string_bytes text.new ≡ string_bytes text.old ++ row_text (texts_of row.now)) }
 {
-    text.push_str(Buffer::new().format(input))?;
-    put_fields(text, fields)?;
+    text.push_str(Buffer::new().format(row.input))?;
+    push_fields(text, &row.fields)?;
     text.push_str("\n")
 }

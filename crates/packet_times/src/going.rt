@@ -1,8 +1,7 @@
-ghost use Rattle.std.specs.Prelude.{◌≡◌, ◌<◌, length};
-ghost use Rattle.rotating_pick.specs.PortSets.{Has};
-ghost use Rattle.rotating_pick.specs.declared.limits.TheConstants.{LEVELS, MAX_PORTS};
-ghost use Rattle.card_core.specs.Plans.{kind_of as queue_kind, queue_of};
-ghost use Rattle.packet_times.specs.WalkingSteps.{own_place, with_one, IsCounted};
+ghost use Rattle.std.specs.Prelude.{◌≡◌, ◌<◌, slice_index};
+ghost use Rattle.rotating_pick.specs.declared.limits.TheConstants.{MAX_PORTS};
+ghost use Rattle.packet_times.specs.WalkingSteps.{own_place, with_one};
+ghost use Rattle.packet_times.specs.KeptRows.{counts_with};
 
 use crate::rows::kind_of;
 use card_core::Planned;
@@ -33,10 +32,16 @@ fn count_one(counts: &mut [u32], place: usize)
     }
 }
 
+/// The count at a place, 0 where there is none.
+pub(crate) fn count_at(counts: &[u32], place: usize) -> u32
+    ensures { result ≡ slice_index counts.now place }
+{
+    counts.get(place).copied().unwrap_or(0)
+}
+
 /// Counts a packet at its flow to each of its outputs.
 pub(crate) fn count_packet(counts: &mut [u32], packet: &Planned)
-    ensures { packet.now.level < LEVELS → length counts.old ≡ MOST_FLOWS
-        → IsCounted (Has packet.now.fan) packet.now.level (queue_kind (queue_of packet.now)) counts.old counts.new }
+    ensures { counts.new ≡ counts_with packet.now counts.old }
 {
     let kind = kind_of(packet.fan);
     let mut left = packet.fan;

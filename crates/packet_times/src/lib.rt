@@ -7,11 +7,13 @@ mod going;
 mod inputs;
 pub mod laws;
 mod limits;
+mod pieces;
 mod rows;
 mod state;
 mod times;
 mod walk;
 
 pub use limits::{MAX_PACKETS_BYTES, limits_are};
+pub use pieces::PacketRows;
 pub use state::PacketState;
 pub use times::PacketTimes;

@@ -1,13 +1,11 @@
-ghost use Rattle.std.specs.Prelude.{◌≡◌, ◌∷◌, ℕ, List, Option, map, decimal};
+ghost use Rattle.std.specs.Prelude.{◌≡◌, ◌∷◌, ℕ, map, decimal};
 ghost use Rattle.cell_cutter.specs.Messages.{cells_of_packet};
-ghost use Rattle.slot_match.specs.declared.matching.Served.{Served};
-ghost use Rattle.card_core.specs.Plans.{Plan, queue_of, queue_for, kind_of as queue_kind};
-ghost use Rattle.slot_report.specs.Texts.{letter_of};
-ghost use Rattle.packet_times.specs.NotingSteps.{was_admitted};
-ghost use Rattle.packet_times.specs.Rows.{departure_text, delay_text, routed_row, aside_row, state_of as packet_state};
+ghost use Rattle.card_core.specs.Plans.{queue_of, queue_for, kind_of as queue_kind};
+ghost use Rattle.packet_times.specs.Rows.{departure_text, delay_text, routed_row, aside_row};
 ghost use Rattle.packet_times.specs.FieldSteps.{field_text};
+ghost use Rattle.packet_times.specs.KeptRows.{kept_state};
 
-use crate::fields::{FIELDS, Field, name_of};
+use crate::fields::{FIELDS, Field};
 use crate::state::PacketState;
 use card_core::Planned;
 use cell_cutter::{MAX_FORWARDED_BYTES, MESSAGE_HEADER_BYTES, PAYLOAD_BYTES};
@@ -20,18 +18,8 @@ fn size_of(len: u32) -> u64
     (MESSAGE_HEADER_BYTES as u64 + u64::from(len)).div_ceil(PAYLOAD_BYTES as u64)
 }
 
-// The letter of a kind.
-fn letter(kind: Kind) -> &'static str
-    ensures { result.now ≡ letter_of kind }
-{
-    match kind {
-        Kind::Uni => "u",
-        Kind::Multi => "m",
-    }
-}
-
 // A number that may be missing.
-fn number_or_empty(number: Option<u32>) -> Field<'static>
+fn number_or_empty(number: Option<u32>) -> Field
     ensures { field_text result ≡ departure_text number }
 {
     match number {
@@ -52,23 +40,23 @@ fn delay_of(arrival: u32, departure: Option<u32>) -> Option<u32>
 
 /// The fields of the row of a packet to an output, after the input's number.
 pub(crate) fn routed_fields(
-    number: u32,
+    number: u64,
     packet: &Planned,
     state: PacketState,
     kind: Kind,
     output: u32,
     departure: Option<u32>,
-) -> [Field<'static>; FIELDS]
+) -> [Field; FIELDS]
     ensures { (input : ℕ) → kind ≡ queue_kind (queue_of packet.now)
         → decimal input ∷ map field_text result ≡ routed_row input number packet.now state output departure }
 {
     [
-        Field::Number(u64::from(number)),
+        Field::Number(number),
         Field::Number(u64::from(packet.len)),
         Field::Number(size_of(packet.len)),
-        Field::Name(name_of(state)),
+        Field::State(state),
         Field::Number(u64::from(packet.level)),
-        Field::Name(letter(kind)),
+        Field::Letter(kind),
         Field::Number(u64::from(output)),
         Field::Number(u64::from(packet.arrival)),
         number_or_empty(departure),
@@ -77,18 +65,14 @@ pub(crate) fn routed_fields(
 }
 
 /// The fields of the row of a packet that goes nowhere, after the input's number.
-pub(crate) fn aside_fields(
-    number: u32,
-    packet: &Planned,
-    state: PacketState,
-) -> [Field<'static>; FIELDS]
+pub(crate) fn aside_fields(number: u64, packet: &Planned, state: PacketState) -> [Field; FIELDS]
     ensures { (input : ℕ) → decimal input ∷ map field_text result ≡ aside_row input number packet.now state }
 {
     [
-        Field::Number(u64::from(number)),
+        Field::Number(number),
         Field::Number(u64::from(packet.len)),
         Field::Number(size_of(packet.len)),
-        Field::Name(name_of(state)),
+        Field::State(state),
         Field::Empty,
         Field::Empty,
         Field::Empty,
@@ -110,7 +94,7 @@ pub(crate) fn kind_of(fan: Ports) -> Kind
 
 /// What became of a packet, which was admitted or not.
 pub(crate) fn state_of(packet: &Planned, admitted: bool) -> PacketState
-    ensures { (plan : Plan) (served : List (Option Served)) → admitted ≡ was_admitted plan served packet.now → result ≡ packet_state plan served packet.now }
+    ensures { result ≡ kept_state packet.now admitted }
 {
     if packet.fan == 0 {
         if packet.len > MAX_FORWARDED_BYTES as u32 {

@@ -2,13 +2,16 @@ ghost use Rattle.std.specs.Prelude.{◌≡◌, ◌+◌, ◌≤◌, ℕ, length, 
 ghost use Rattle.rotating_pick.specs.declared.limits.TheConstants.{MAX_PORTS};
 ghost use Rattle.eslip_rounds.specs.Schedulers.{Scheduler};
 ghost use Rattle.switch_plan.specs.GoodPlans.{SwitchPlan, IsGood, IsCountable, switch_plan_of};
-ghost use Rattle.run_laws.specs.Runs.{ports_of, IsSlotUnder};
+ghost use Rattle.run_laws.specs.Runs.{IsSlotUnder};
 ghost use Rattle.run_laws.specs.Promises.{ArrivalsComeFirst};
 ghost use Rattle.packet_times.specs.Rows.{packets_text_under};
 ghost use Rattle.packet_times.specs.NotingSteps.{HasNoted};
+ghost use Rattle.packet_times.specs.KeptRows.{kept_ports};
 
 use crate::ends::{FlowEnds, no_ends, note_ends};
+use crate::fields::{MOST_ROW_BYTES, push_row, put_row};
 use crate::inputs::{Input, inputs_of, note_inputs};
+use crate::walk::Walk;
 use crossbar::Post;
 use rotating_pick::{MAX_PORTS, OutOfMemory, PORT_COUNT};
 use slot_match::{Fed, Match, Served};
@@ -16,8 +19,9 @@ use std::alloc::{AllocError, Global};
 use std::marker::Model;
 use switch_plan::Plan;
 
-// The first line of the packets file.
-const HEADER: &str = "input,packet,bytes,cells,state,level,kind,output,arrival,departure,delay\n";
+/// The first line of the packets file.
+pub(crate) const HEADER: &str =
+    "input,packet,bytes,cells,state,level,kind,output,arrival,departure,delay\n";
 
 /// When the packets of a run leave, noted slot by slot.
 #[derive(Drop)]
@@ -75,26 +79,23 @@ impl PacketTimes {
     /// How many ports the switch has, no more than 64.
     pub(crate) fn ports(&self) -> u32
         ensures most { result ≤ MAX_PORTS }
-        ensures within { result ≤ length self.now.inputs }
-        ensures value { length self.now.inputs ≤ MAX_PORTS → result ≡ length self.now.inputs }
-        ensures all { (scheduler : Scheduler) (plan : SwitchPlan) (slots : ℕ) → HasNoted scheduler plan self.now slots → result ≡ ports_of plan }
+        ensures value { result ≡ kept_ports self.now }
     {
         self.inputs.len().min(MAX_PORTS as usize) as u32
     }
 
     /// How many bytes the packets file has, of a run of which so many slots were noted, and by whose end all packets have
-    /// arrived. It makes the rows of one input at a time. Want of memory is the only error.
-    pub fn len(&self, alloc: Global) -> Result<u64, OutOfMemory>
+    /// arrived. It makes one row at a time, and takes no memory; that the sum does not fit is the only error.
+    pub fn len(&self, _alloc: Global) -> Result<u64, OutOfMemory>
         ensures { (scheduler : Scheduler) (plan : SwitchPlan) (slots : ℕ) → HasNoted scheduler plan self.now slots → ArrivalsComeFirst plan slots
             → IfOk result (λ len. len ≡ length (packets_text_under scheduler plan slots)) }
     {
         let mut len = HEADER.len() as u64;
-        let mut rows = String::new(alloc);
-        for input in 0..self.ports() {
-            rows.clear();
-            self.put_input(&mut rows, input)?;
-            // No run has rows of so many bytes that the sum does not fit.
-            len = len.checked_add(rows.len() as u64).ok_or(OutOfMemory)?;
+        let mut bytes = [0; MOST_ROW_BYTES];
+        let mut walk = Walk::at(0);
+        while let Some(row) = self.next_row(&mut walk) {
+            let more = put_row(&mut bytes, 0, &row) as u64;
+            len = len.checked_add(more).ok_or(OutOfMemory)?;
         }
         Ok(len)
     }
@@ -105,8 +106,9 @@ impl PacketTimes {
             → IfOk result (λ text. string_bytes text ≡ packets_text_under scheduler plan slots) }
     {
         let mut text = String::from_str(alloc, HEADER)?;
-        for input in 0..self.ports() {
-            self.put_input(&mut text, input)?;
+        let mut walk = Walk::at(0);
+        while let Some(row) = self.next_row(&mut walk) {
+            push_row(&mut text, &row)?;
         }
         Ok(text)
     }

@@ -1,125 +1,182 @@
-ghost use Rattle.std.specs.Prelude.{◌≡◌, ◌≢◌, ℕ, ◌<◌, ◌≤◌, ◌++◌, if◌then◌else◌, None, length, OnOk, string_bytes};
+ghost use Rattle.std.specs.Prelude.{◌≡◌, ◌<◌, ◌+◌, ◌^◌, ◌∷◌, ℕ, [], length, slice_get, slice_index_or, IfSome, IfNone};
 ghost use Rattle.rotating_pick.specs.declared.limits.TheConstants.{LEVELS, MAX_PORTS};
-ghost use Rattle.eslip_rounds.specs.Schedulers.{Scheduler};
-ghost use Rattle.switch_plan.specs.GoodPlans.{SwitchPlan};
-ghost use Rattle.run_laws.specs.Runs.{ports_of};
-ghost use Rattle.run_laws.specs.Promises.{ArrivalsComeFirst};
-ghost use Rattle.packet_departures.specs.Departures.{departure_under};
-ghost use Rattle.packet_times.specs.NotingSteps.{HasNoted};
-ghost use Rattle.packet_times.specs.Steps.{input_text};
-ghost use Rattle.packet_times.specs.WalkingSteps.{HasGone, IsOutcome, outcome_text};
+ghost use Rattle.packet_times.specs.NotingSteps.{no_input};
+ghost use Rattle.packet_times.specs.Rows.{aside_row};
+ghost use Rattle.packet_times.specs.FieldSteps.{texts_of};
+ghost use Rattle.packet_times.specs.KeptRows.{is_flow, begun, kept_departure, kept_state, kept_row, walk_at, kept_outcome, passed, rows_left};
 
 use crate::ends::place_of_flow;
-use crate::fields::put_row;
-use crate::going::{MOST_FLOWS, count_packet, place_of_own};
+use crate::fields::Row;
+use crate::going::{MOST_FLOWS, count_at, count_packet, place_of_own};
 use crate::rows::{aside_fields, kind_of, routed_fields, state_of};
 use crate::times::PacketTimes;
 use card_core::Planned;
-use rotating_pick::{LEVELS, MAX_PORTS, is_empty, lowest, without};
-use std::alloc::AllocError;
+use rotating_pick::{LEVELS, MAX_PORTS, Ports, is_empty, lowest, without};
 
 /// A packet of an input, its number there, and whether it was admitted.
 #[derive(Clone, Copy)]
 pub(crate) struct Outcome {
-    pub(crate) input: u32,
-    pub(crate) number: u32,
+    pub(crate) input: usize,
+    pub(crate) number: usize,
     pub(crate) packet: Planned,
     pub(crate) admitted: bool,
 }
 
+/// How far a walk over the rows has come: the input, the number of its next packet, the outputs that are left of that where
+/// it has begun, and how many packets before it went by each flow of the input.
+#[derive(Clone, Copy)]
+pub(crate) struct Walk {
+    pub(crate) input: usize,
+    pub(crate) number: usize,
+    pub(crate) outputs: Ports,
+    pub(crate) counts: [u32; MOST_FLOWS],
+}
+
+impl Walk {
+    /// A walk before the rows of an input.
+    pub(crate) fn at(input: usize) -> Walk
+        ensures { result ≡ walk_at input }
+    {
+        Walk {
+            input,
+            number: 0,
+            outputs: 0,
+            counts: [0; MOST_FLOWS],
+        }
+    }
+
+    // The outputs that are left of its packet.
+    fn left_of(&self, packet: &Planned) -> Ports
+        ensures { result ≡ begun packet.now self.now.outputs }
+    {
+        if is_empty(self.outputs) {
+            packet.fan
+        } else {
+            self.outputs
+        }
+    }
+
+    // Goes past a row of its packet, of which these outputs are left.
+    fn pass(&mut self, outcome: &Outcome, rest: Ports)
+        requires { self.old.number < 2 ^ 63 }
+        ensures { self.new ≡ passed outcome.now.packet outcome.now.admitted rest self.old }
+    {
+        self.outputs = rest;
+        if is_empty(rest) {
+            self.number += 1;
+            if outcome.admitted {
+                count_packet(&mut self.counts, &outcome.packet);
+            }
+        }
+    }
+}
+
+// Whether it is a flow of a switch of so many ports.
+fn is_flow_of(ports: u32, input: usize, output: u32, level: u8) -> bool
+    ensures { result ≡ is_flow ports input output level }
+{
+    input < ports as usize && output < ports && u32::from(level) < LEVELS
+}
+
 impl PacketTimes {
+    // The end of this number of the flow at a place.
+    fn end_at(&self, place: usize, number: u32) -> Option<u32>
+        ensures { result ≡ slice_get (slice_index_or self.now.ends place []) number }
+    {
+        self.ends.get(place)?.get(number)
+    }
+
     // The slot in which a packet left by an output, where it was admitted; the counts are of the packets before it.
-    fn departure(&self, counts: &[u32], outcome: Outcome, output: u32) -> Option<u32>
+    fn departure(&self, counts: &[u32], outcome: &Outcome, output: u32) -> Option<u32>
         requires { output < MAX_PORTS }
-        ensures { (scheduler : Scheduler) (plan : SwitchPlan) (slots : ℕ) → HasNoted scheduler plan self.now slots
-            → IsOutcome scheduler plan slots outcome → output < ports_of plan
-            → HasGone scheduler plan slots outcome.input outcome.number counts.now
-            → result ≡ (if outcome.admitted then departure_under scheduler plan slots outcome.input output outcome.number outcome.packet else None) }
+        ensures { result ≡ kept_departure self.now counts.now outcome.now.input outcome.now.packet outcome.now.admitted output }
     {
         let ports = self.ports();
         let level = outcome.packet.level;
-        let is_flow = outcome.input < ports && output < ports && u32::from(level) < LEVELS;
-        if !is_flow || !outcome.admitted {
+        if !outcome.admitted || !is_flow_of(ports, outcome.input, output, level) {
             return None;
         }
         let kind = kind_of(outcome.packet.fan);
-        let earlier = *counts.get(place_of_own(output, level, kind))?;
-        let place = place_of_flow(ports, outcome.input, output, level, kind);
-        self.ends.get(place)?.get(earlier)
+        let earlier = count_at(counts, place_of_own(output, level, kind));
+        let place = place_of_flow(ports, outcome.input as u32, output, level, kind);
+        self.end_at(place, earlier)
     }
 
-    // Appends the rows of a packet that goes somewhere, one for each of its outputs.
-    fn put_routed(
-        &self,
-        text: &mut String,
-        counts: &[u32],
-        outcome: Outcome,
-    ) -> Result<(), AllocError>
-        ensures { (scheduler : Scheduler) (plan : SwitchPlan) (slots : ℕ) → HasNoted scheduler plan self.now slots
-            → IsOutcome scheduler plan slots outcome
-            → HasGone scheduler plan slots outcome.input outcome.number counts.now → outcome.packet.fan ≢ 0
-            → OnOk result (string_bytes text.new ≡ string_bytes text.old ++ outcome_text scheduler plan slots outcome) }
+    // The row of a packet to an output.
+    fn routed(&self, counts: &[u32], outcome: &Outcome, output: u32) -> Row
+        requires { output < MAX_PORTS }
+        ensures { texts_of result ≡ kept_row self.now counts.now outcome.now.input outcome.now.number outcome.now.packet outcome.now.admitted output }
     {
-        let Outcome {
-            input,
-            number,
-            packet,
-            admitted,
-        } = outcome;
-        let state = state_of(&packet, admitted);
+        let packet = &outcome.packet;
+        let departure = self.departure(counts, outcome, output);
+        let state = state_of(packet, outcome.admitted);
         let kind = kind_of(packet.fan);
-        let mut left = packet.fan;
-        while let Some(output) = lowest(left) {
-            let departure = self.departure(counts, outcome, output);
-            let fields = routed_fields(number, &packet, state, kind, output, departure);
-            put_row(text, input, &fields)?;
-            left = without(left, output);
-        }
-        Ok(())
-    }
-
-    // Appends the rows of a packet.
-    fn put_packet(
-        &self,
-        text: &mut String,
-        counts: &[u32],
-        outcome: Outcome,
-    ) -> Result<(), AllocError>
-        ensures { (scheduler : Scheduler) (plan : SwitchPlan) (slots : ℕ) → HasNoted scheduler plan self.now slots
-            → IsOutcome scheduler plan slots outcome
-            → HasGone scheduler plan slots outcome.input outcome.number counts.now
-            → OnOk result (string_bytes text.new ≡ string_bytes text.old ++ outcome_text scheduler plan slots outcome) }
-    {
-        if is_empty(outcome.packet.fan) {
-            let state = state_of(&outcome.packet, outcome.admitted);
-            let fields = aside_fields(outcome.number, &outcome.packet, state);
-            put_row(text, outcome.input, &fields)
-        } else {
-            self.put_routed(text, counts, outcome)
+        Row {
+            input: outcome.input,
+            fields: routed_fields(
+                outcome.number as u64,
+                packet,
+                state,
+                kind,
+                output,
+                departure,
+            ),
         }
     }
 
-    /// Appends the rows of an input's packets, in the order of its capture.
-    pub(crate) fn put_input(&self, text: &mut String, input: u32) -> Result<(), AllocError>
-        requires { input < length self.now.inputs }
-        ensures { (scheduler : Scheduler) (plan : SwitchPlan) (slots : ℕ) → HasNoted scheduler plan self.now slots → ArrivalsComeFirst plan slots
-            → OnOk result (string_bytes text.new ≡ string_bytes text.old ++ input_text scheduler plan slots input) }
+    // Goes on to the next input that has a packet left.
+    fn go_on(&self, walk: &mut Walk)
+        ensures same { rows_left self.now walk.new ≡ rows_left self.now walk.old }
+        ensures there { walk.new.input < length self.now.inputs
+            → walk.new.number < length (slice_index_or self.now.inputs walk.new.input no_input).counters.packets }
     {
-        let own = &self.inputs[input as usize];
-        let mut counts = [0; MOST_FLOWS];
-        for (number, packet) in own.packets().iter().enumerate() {
-            let admitted = own.is_admitted(number);
-            let outcome = Outcome {
-                input,
-                number: number.min(u32::MAX as usize) as u32,
-                packet: *packet,
-                admitted,
-            };
-            self.put_packet(text, &counts, outcome)?;
-            if admitted {
-                count_packet(&mut counts, packet);
-            }
+        while walk.input < self.inputs.len()
+            && walk.number >= self.inputs[walk.input].packets().len()
+        {
+            *walk = Walk::at(walk.input + 1);
         }
-        Ok(())
+    }
+
+    // The packet that a walk is at, None where there is none.
+    fn outcome_at(&self, walk: &Walk) -> Option<Outcome>
+        ensures value { result ≡ kept_outcome self.now walk.now }
+        ensures few { IfSome result (λ outcome. walk.now.number < 2 ^ 63) }
+    {
+        let own = self.inputs.get(walk.input)?;
+        let packet = own.packets().get(walk.number)?;
+        Some(Outcome {
+            input: walk.input,
+            number: walk.number,
+            packet: *packet,
+            admitted: own.is_admitted(walk.number),
+        })
+    }
+
+    /// Takes the next row of those that the walk has left, None where there is none.
+    pub(crate) fn next_row(&self, walk: &mut Walk) -> Option<Row>
+        ensures some { IfSome result (λ row. rows_left self.now walk.old ≡ texts_of row ∷ rows_left self.now walk.new) }
+        ensures none { IfNone result ((rows_left self.now walk.old ≡ []) × (rows_left self.now walk.new ≡ [])) }
+    {
+        self.go_on(walk);
+        let outcome = self.outcome_at(walk)?;
+        let left = walk.left_of(&outcome.packet);
+        let Some(output) = lowest(left) else {
+            walk.pass(&outcome, 0);
+            return Some(aside(&outcome));
+        };
+        let row = self.routed(&walk.counts, &outcome, output);
+        walk.pass(&outcome, without(left, output));
+        Some(row)
+    }
+}
+
+// The row of a packet that goes nowhere.
+fn aside(outcome: &Outcome) -> Row
+    ensures { texts_of result ≡ aside_row outcome.now.input outcome.now.number outcome.now.packet (kept_state outcome.now.packet outcome.now.admitted) }
+{
+    let state = state_of(&outcome.packet, outcome.admitted);
+    Row {
+        input: outcome.input,
+        fields: aside_fields(outcome.number as u64, &outcome.packet, state),
     }
 }

@@ -1,14 +1,10 @@
-use Rattle.std.proofs.Common.{◌∙◌, ◌++◌, ℕ, List, ap, string_bytes}
-use Rattle.std.proofs.lemmas.Result.{on_ok_weaker}
-use Rattle.std.specs.Prelude.{codes}
-use Rattle.std_lemmas.proofs.Appending.{appended}
-use Rattle.packet_times.proofs.Texts.{whole_row}
+use Rattle.std.proofs.Common.{subst}
+use Rattle.packet_times.specs.PuttingSteps.{IsPut}
+use Rattle.packet_times.proofs.Putting.{put-then}
+use Rattle.packet_times.proofs.Texts.{row-pieces}
 use Rattle.packet_times.proofs.fields.put_row.Goals as goal
 
 pub returns : goal.returns
 returns c =
-    on_ok_weaker c.push_str-2.result
-    (λ end. whole_row (string_bytes c.args.text.now) (string_bytes c.push_str.new.self) (string_bytes c.put_fields.new.text)
-    (string_bytes c.push_str-2.new.self) c.args.input c.args.fields.now
-    (c.in_ok-push_str.ensures.bytes ∙ ap (λ (s : List ℕ). string_bytes c.args.text.now ++ s) c.format.ensures.text) c.in_ok-put_fields.ensures end)
-    (appended c.push_str-2.result (string_bytes c.put_fields.new.text) (codes "\n") (string_bytes c.push_str-2.new.self) c.push_str-2.ensures.bytes)
+    subst (λ s. IsPut c.args.buf.now c.args.at s c.put_bytes.new.buf c.put_bytes.result) (row-pieces c.args.row.now.input c.args.row.now.fields)
+    (put-then _ _ _ _ _ _ _ _ (put-then _ _ _ _ _ _ _ _ c.put_field-input.ensures.put c.put_fields-fields.ensures.put) c.put_bytes.ensures)

@@ -1,56 +1,46 @@
-use Rattle.std.proofs.Common.{◌≡◌, ◌∙◌, ◌<◌, ℕ, refl, sym, ap, subst, arith}
-use Rattle.rotating_pick.specs.PortSets.{Has}
-use Rattle.rotating_pick.specs.declared.kinds.Kind.{Kind}
-use Rattle.rotating_pick.proofs.Bits.{Has-lt, no_member-zero}
-use Rattle.packet_times.specs.WalkingSteps.{own_place, with_one, IsCounted}
-use Rattle.packet_times.proofs.Counted.{counted-first, counted-more, counted-as}
-use Rattle.packet_times.proofs.Places.{kind_few}
+use Rattle.std.proofs.Common.{◌≡◌, ◌∙◌, ℕ, List, refl, sym, ap, arith}
+use Rattle.std.specs.List.{fold}
+use Rattle.rotating_pick.specs.declared.limits.TheConstants.{MAX_PORTS}
+use Rattle.rotating_pick.proofs.Bits.{Has-lt}
+use Rattle.card_core.specs.Plans.{kind_of, queue_of}
+use Rattle.packet_times.specs.Rows.{outputs_in}
+use Rattle.packet_times.specs.WalkingSteps.{own_place, with_one}
+use Rattle.packet_times.proofs.Rowing.{outputs-next, no-outputs}
 use Rattle.packet_times.proofs.going.count_packet.Goals as goal
+
+pub loop-output-init : goal.loop-output-init
+loop-output-init c = record { inside = λ j has. has; counted = refl }
 
 pub place_of_own-requires : goal.place_of_own-requires
 place_of_own-requires c =
-    Has-lt 64 c.args.packet.now.fan c.in-Some.output (omega arith) (c.loop-output.invariant.inside c.in-Some.output c.in-Some.ensures.member)
+    let n = c.in-Some.output in
+    Has-lt 64 c.args.packet.now.fan n (omega arith) (c.loop-output.invariant.inside n c.in-Some.ensures.member)
 
 pub without-left-requires : goal.without-left-requires
 without-left-requires c =
-    Has-lt 64 c.args.packet.now.fan c.in-Some.output (omega arith) (c.loop-output.invariant.inside c.in-Some.output c.in-Some.ensures.member)
-
-pub loop-output-init : goal.loop-output-init
-loop-output-init c = record {
-  inside = λ j has. has;
-  counted = λ level long. counted-first c.args.packet.now.level c.kind_of-kind.result c.args.counts.now _ (λ j is. is.1 is.0);
-}
+    let n = c.in-Some.output in
+    Has-lt 64 c.args.packet.now.fan n (omega arith) (c.loop-output.invariant.inside n c.in-Some.ensures.member)
 
 pub loop-output-preserved : goal.loop-output-preserved
 loop-output-preserved c =
     let n = c.in-Some.output in
-    let fan = c.args.packet.now.fan in
-    let low = c.args.packet.now.level in
-    let kind = c.kind_of-kind.result in
-    let old = c.args.counts.now in
-    let were = c.loop-output.invariant in
+    let p = c.args.packet.now in
+    let rest = c.without-left.result in
+    let add : List ℕ → ℕ → List ℕ = λ now j. with_one now (own_place j p.level (kind_of (queue_of p))) in
     let member = c.in-Some.ensures.member in
+    let counted : c.count_one.new.counts ≡ add c.loop-output.counts n =
+    c.count_one.ensures ∙ ap (with_one c.loop-output.counts) (c.place_of_own.ensures ∙ ap (own_place n p.level) (c.kind_of-kind.ensures p.level)) in
     let members = c.without-left.ensures.members in
-    let few = kind_few kind in
-    let below = Has-lt 64 fan n (omega arith) (were.inside n member) in
-    let place : c.place_of_own.result ≡ own_place n low kind = c.place_of_own.ensures in
     record {
-      inside = λ j has. were.inside j ((members j).0 has).1;
-      counted = λ level long.
-          subst (IsCounted _ low kind old) (sym (c.count_one.ensures ∙ ap (with_one c.loop-output.counts) place))
-          (counted-more low kind old (λ (j : ℕ). Has fan j × (Has c.loop-output.left j → ⊥)) _ n c.loop-output.counts (omega (arith, few, below, level, long))
-          (λ is. is.1 member) (were.inside n member, (λ has. ((members n).0 has).0 refl))
-          (λ j ne is. (is.0, (λ has. is.1 ((members j).1 (ne, has))))) (λ j is. (is.0, (λ has. is.1 ((members j).0 has).1)))
-          (were.counted level long));
+      inside = λ j has. c.loop-output.invariant.inside j ((members j).0 has).1;
+      counted = c.loop-output.invariant.counted
+          ∙ ap (fold add c.loop-output.counts) (outputs-next c.loop-output.left rest n member c.in-Some.ensures.least members MAX_PORTS
+          (Has-lt 64 p.fan n (omega arith) (c.loop-output.invariant.inside n member)))
+          ∙ ap (λ (now : List ℕ). fold add now (outputs_in MAX_PORTS rest)) (sym counted);
     }
 
 pub returns : goal.returns
-returns c level long =
-    let kind = c.kind_of-kind.ensures c.args.packet.now.level in
-    let fan = c.args.packet.now.fan in
-    let low = c.args.packet.now.level in
-    let old = c.args.counts.now in
-    let none : c.loop-output.left ≡ 0 = c.in_default.ensures.none.0 refl in
-    subst (λ (k : Kind). IsCounted (Has fan) low k old c.loop-output.counts) kind
-    (counted-as low c.kind_of-kind.result old _ (Has fan) c.loop-output.counts (λ j is. is.0)
-    (λ j has. (has, (λ still. no_member-zero j (subst (λ s. Has s j) none still)))) (c.loop-output.invariant.counted level long))
+returns c =
+    let p = c.args.packet.now in
+    let add : List ℕ → ℕ → List ℕ = λ now j. with_one now (own_place j p.level (kind_of (queue_of p))) in
+    sym (c.loop-output.invariant.counted ∙ ap (fold add c.loop-output.counts) (no-outputs c.loop-output.left MAX_PORTS (c.in_default.ensures.none.0 refl)))

@@ -1,15 +1,18 @@
-use Rattle.std.proofs.Common.{◌≡◌, ◌<◌, ℕ, length}
+use Rattle.std.proofs.Common.{◌≡◌, ℕ}
+use Rattle.std.specs.List.{fold}
 use Rattle.rotating_pick.specs.PortSets.{Has}
-use Rattle.rotating_pick.specs.declared.limits.TheConstants.{LEVELS}
-use Rattle.packet_times.specs.declared.going.TheConstants.{MOST_FLOWS}
-use Rattle.packet_times.specs.WalkingSteps.{IsCounted}
+use Rattle.rotating_pick.specs.declared.limits.TheConstants.{MAX_PORTS}
+use Rattle.card_core.specs.Plans.{kind_of, queue_of}
+use Rattle.packet_times.specs.Rows.{outputs_in}
+use Rattle.packet_times.specs.WalkingSteps.{own_place, with_one}
+use Rattle.packet_times.specs.KeptRows.{counts_with}
 use Rattle.packet_times.proofs.going.count_packet.Given as goal
 
 abbrev pub invariant-loop-output : goal.invariant-loop-output
 invariant-loop-output l = record {
   inside : (j : ℕ) → Has l.left j → Has l.packet.fan j;
-  counted : l.packet.level < LEVELS → length l.fn.counts ≡ MOST_FLOWS
-      → IsCounted (λ (j : ℕ). Has l.packet.fan j × (Has l.left j → ⊥)) l.packet.level l.kind l.fn.counts l.counts;
+  counted : counts_with l.packet l.fn.counts
+      ≡ fold (λ now j. with_one now (own_place j l.packet.level (kind_of (queue_of l.packet)))) l.counts (outputs_in MAX_PORTS l.left);
 }
 
 abbrev pub decreases-loop-output : goal.decreases-loop-output

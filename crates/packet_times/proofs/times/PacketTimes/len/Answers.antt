@@ -1,23 +1,34 @@
-use Rattle.std.proofs.Common.{◌≡◌, ◌∙◌, ◌+◌, ◌++◌, List, ℕ, length, ap, arith, string_bytes}
-use Rattle.packet_times.specs.Steps.{input_text}
-use Rattle.packet_times.proofs.Texts.{sum-is, length-more, whole-file}
+use Rattle.std.proofs.Common.{◌≡◌, ◌∙◌, ◌+◌, ℕ, List, length, sym, ap, arith, add-zero, length-append}
+use Rattle.std.specs.List.{flat_map}
+use Rattle.packet_times.specs.declared.walk.Walk.{Walk}
+use Rattle.packet_times.specs.Rows.{row_text, header}
+use Rattle.packet_times.specs.KeptRows.{walk_at, rows_left}
+use Rattle.packet_times.proofs.KeptTexts.{text-same}
+use Rattle.packet_times.proofs.Texts.{sum-is, row-counted}
 use Rattle.packet_times.proofs.times.PacketTimes.len.Goals as goal
 
-pub loop-input-preserved : goal.loop-input-preserved
-loop-input-preserved c scheduler plan slots noted first =
-    let k = c.loop-input.input in
-    let len = c.loop-input.len in
-    let rows = string_bytes c.put_input.new.text in
-    let made = c.in_ok-put_input.ensures scheduler plan slots noted first in
-    let are : rows ≡ input_text scheduler plan slots k = made ∙ ap (λ (s : List ℕ). s ++ input_text scheduler plan slots k) c.clear.ensures.bytes in
-    let long : c.len.result ≡ length rows = omega arith in
-    let sum : c.in_ok-len.len ≡ len + c.len.result =
-    sum-is c.checked_add.result _ (len + c.len.result) c.in_ok-len.len c.ok_or.result c.checked_add.ensures c.ok_or.ensures.ok_part c.in_ok-len.was in
-    let were = c.loop-input.invariant scheduler plan slots noted first in
-    length-more scheduler plan slots k len c.in_ok-len.len rows were are (sum ∙ ap (λ (n : ℕ). len + n) long)
+pub loop-row-init : goal.loop-row-init
+loop-row-init c =
+    let t = c.args.self.now in
+    length-append header (flat_map row_text (rows_left t (walk_at 0)))
+    ∙ ap (λ (w : Walk). length header + length (flat_map row_text (rows_left t w))) (sym c.at-walk.ensures)
+
+pub loop-row-smaller : goal.loop-row-smaller
+loop-row-smaller c = omega (arith, ap length c.in-Some.ensures.some)
+
+pub loop-row-preserved : goal.loop-row-preserved
+loop-row-preserved c =
+    let len = c.loop-row.len in
+    let more = c.put_row-more.result in
+    let sum : c.in_ok-len.len ≡ len + more =
+    sum-is c.checked_add.result _ (len + more) c.in_ok-len.len c.ok_or.result c.checked_add.ensures c.ok_or.ensures.ok_part c.in_ok-len.was in
+    row-counted _ len more _ _ _ c.loop-row.invariant c.in-Some.ensures.some (omega (arith, c.put_row-more.ensures.place))
+    ∙ ap (λ (n : ℕ). n + length (flat_map row_text (rows_left c.args.self.now c.next_row.new.walk))) (sym sum)
 
 pub returns : goal.returns
-returns c scheduler plan slots noted first =
-    let all = c.ports-input-end.ensures.all scheduler plan slots noted in
-    let end : c.loop-input.input ≡ c.ports-input-end.result = omega arith in
-    c.loop-input.invariant scheduler plan slots noted first ∙ ap length (whole-file scheduler plan slots c.loop-input.input (end ∙ all))
+returns c scheduler plan slots noted come =
+    let len = c.loop-row.len in
+    sym (c.loop-row.invariant
+    ∙ ap (λ (rows : List (List (List ℕ))). len + length (flat_map row_text rows)) c.in_default.ensures.none.0
+    ∙ add-zero len)
+    ∙ ap length (text-same scheduler plan slots c.args.self.now noted come)

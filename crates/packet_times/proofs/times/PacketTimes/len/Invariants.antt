@@ -1,12 +1,11 @@
-use Rattle.std.proofs.Common.{◌≡◌, ℕ, length}
-use Rattle.eslip_rounds.specs.Schedulers.{Scheduler}
-use Rattle.switch_plan.specs.GoodPlans.{SwitchPlan}
-use Rattle.run_laws.specs.Promises.{ArrivalsComeFirst}
-use Rattle.packet_times.specs.NotingSteps.{HasNoted}
-use Rattle.packet_times.proofs.Texts.{first_inputs}
+use Rattle.std.proofs.Common.{◌≡◌, ◌+◌, ◌++◌, length}
+use Rattle.std.specs.List.{flat_map}
+use Rattle.packet_times.specs.Rows.{row_text, header}
+use Rattle.packet_times.specs.KeptRows.{walk_at, rows_left}
 use Rattle.packet_times.proofs.times.PacketTimes.len.Given as goal
 
-abbrev pub invariant-loop-input : goal.invariant-loop-input
-invariant-loop-input l =
-    (scheduler : Scheduler) (plan : SwitchPlan) (slots : ℕ) → HasNoted scheduler plan l.self slots → ArrivalsComeFirst plan slots
-    → l.len ≡ length (first_inputs scheduler plan slots l.input)
+abbrev pub invariant-loop-row : goal.invariant-loop-row
+invariant-loop-row l = length (header ++ flat_map row_text (rows_left l.self (walk_at 0))) ≡ l.len + length (flat_map row_text (rows_left l.self l.walk))
+
+abbrev pub decreases-loop-row : goal.decreases-loop-row
+decreases-loop-row l = length (rows_left l.self l.walk)

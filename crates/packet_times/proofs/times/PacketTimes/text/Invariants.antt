@@ -1,12 +1,11 @@
-use Rattle.std.proofs.Common.{◌≡◌, ℕ, string_bytes}
-use Rattle.eslip_rounds.specs.Schedulers.{Scheduler}
-use Rattle.switch_plan.specs.GoodPlans.{SwitchPlan}
-use Rattle.run_laws.specs.Promises.{ArrivalsComeFirst}
-use Rattle.packet_times.specs.NotingSteps.{HasNoted}
-use Rattle.packet_times.proofs.Texts.{first_inputs}
+use Rattle.std.proofs.Common.{◌≡◌, ◌++◌, length, string_bytes}
+use Rattle.std.specs.List.{flat_map}
+use Rattle.packet_times.specs.Rows.{row_text, header}
+use Rattle.packet_times.specs.KeptRows.{walk_at, rows_left}
 use Rattle.packet_times.proofs.times.PacketTimes.text.Given as goal
 
-abbrev pub invariant-loop-input : goal.invariant-loop-input
-invariant-loop-input l =
-    (scheduler : Scheduler) (plan : SwitchPlan) (slots : ℕ) → HasNoted scheduler plan l.self slots → ArrivalsComeFirst plan slots
-    → string_bytes l.text ≡ first_inputs scheduler plan slots l.input
+abbrev pub invariant-loop-row : goal.invariant-loop-row
+invariant-loop-row l = header ++ flat_map row_text (rows_left l.self (walk_at 0)) ≡ string_bytes l.text ++ flat_map row_text (rows_left l.self l.walk)
+
+abbrev pub decreases-loop-row : goal.decreases-loop-row
+decreases-loop-row l = length (rows_left l.self l.walk)
