@@ -1,6 +1,6 @@
 //! Runs test vectors from outside against the plan of a job: each table is planned with captures that have no
 //! packets, and with a packet to each address whose route is stated; the plan or its refusal is compared with
-//! what the row states.
+//! what the row states. In `limits.txt` it is the first limit that numbers of slots, packets and cells pass.
 //!
 //! `known_plans FILE..` prints a line for each file, as `tables.txt: 298 rows, 0 wrong`, and names each
 //! wrong row on standard error. A row that cannot be read is wrong. The status is 0 where nothing is
@@ -8,11 +8,11 @@
 #![tactic(auto)]
 
 mod captures;
+mod limit_rows;
 mod plans;
 mod table_rows;
 mod vector_file;
 
-use crate::table_rows::rows_of_lines;
 use crate::vector_file::Reader;
 use std::process::ExitCode;
 use std::rt::Files;
@@ -36,6 +36,9 @@ fn check_file<R: Threads + Sync + Files + Print + Eprint + AllocGlobal>(
     path: &str,
 ) -> io::Result<usize> {
     let text = fs::read_to_string(rt, path)?;
-    let rows = rows_of_lines(rt, rt.alloc(), text.as_str())?;
+    let rows = match path {
+        "limits.txt" => limit_rows::rows_of_lines(rt.alloc(), text.as_str())?,
+        _ => table_rows::rows_of_lines(rt, rt.alloc(), text.as_str())?,
+    };
     check_text(rt, path, Reader { rows }, text.as_str())
 }

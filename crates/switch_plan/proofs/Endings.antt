@@ -19,7 +19,7 @@ use Rattle.switch_plan.specs.declared.fault.PlanFault.TheVariants.{Table, Captur
 use Rattle.switch_plan.specs.Traffic.{CaptureFile, file_of, IsFile, AreFiles, traffic_of}
 use Rattle.switch_plan.specs.declared.limits.Limits.{Limits}
 use Rattle.switch_plan.specs.Totals.{slots_of, total_work}
-use Rattle.switch_plan.specs.Refusals.{IsFirstFault, first_link, mixed_links, first_over, over_packets, over_work, over_limits}
+use Rattle.switch_plan.specs.Refusals.{IsFirstFault, first_link, mixed_links, first_over, over_packets, over_cells, over_traffic}
 use Rattle.switch_plan.specs.Refusals.{AreRead, IsRefusedWhenRead, IsRefusal, Terms, terms_of, limits_for, refusal_of}
 use Rattle.switch_plan.specs.ReadingSteps.{bytes_of_files, IsCaptureOf, AreCapturesOf}
 use Rattle.switch_plan.specs.GoodPlans.{switch_plan_of, IsPlanOf}
@@ -84,33 +84,34 @@ late_mixed : (first : ℕ) (other : Option ℕ) (fault : PlanFault) → option_m
 late_mixed first None fault is = absurd (none-some fault is)
 late_mixed first (Some other) fault is = subst IsLate (same_Some (MixedLink first other) fault is) tt
 
-late_over : (most port : ℕ) (ports : List (List Planned)) (fault : PlanFault) → first_over most port ports ≡ Some fault → IsLate fault
+late_over : (most port : ℕ) (ports : List ℕ) (fault : PlanFault) → first_over most port ports ≡ Some fault → IsLate fault
 late_over most port [] fault is = absurd (none-some fault is)
-late_over most port (packets ∷ ports) fault is =
-    late_if (nat_lt most (slots_of packets)) (TooManySlots port (slots_of packets)) fault (first_over most (port + 1) ports) tt
-    (late_over most (port + 1) ports) is
+late_over most port (slots ∷ ports) fault is =
+    late_if (nat_lt most slots) (TooManySlots port slots) fault (first_over most (port + 1) ports) tt (late_over most (port + 1) ports) is
 
-late_work : (most : ℕ) (ports : List (List Planned)) (fault : PlanFault) → over_work most ports ≡ Some fault → IsLate fault
-late_work most ports fault is = late_if (nat_lt most (total_work ports)) (TooManyCells (total_work ports)) fault None tt (λ f e. absurd (none-some f e)) is
+late_cells : (most cells : ℕ) (fault : PlanFault) → over_cells most cells ≡ Some fault → IsLate fault
+late_cells most cells fault is = late_if (nat_lt most cells) (TooManyCells cells) fault None tt (λ f e. absurd (none-some f e)) is
 
-late_packets : (most : Option ℕ) (ports : List (List Planned)) (fault : PlanFault) → over_packets most ports ≡ Some fault → IsLate fault
-late_packets None ports fault is = absurd (none-some fault is)
-late_packets (Some most) ports fault is =
-    late_if (nat_lt most (sum_by length ports)) (TooManyPackets (sum_by length ports)) fault None tt (λ f e. absurd (none-some f e)) is
+late_packets : (most : Option ℕ) (packets : ℕ) (fault : PlanFault) → over_packets most packets ≡ Some fault → IsLate fault
+late_packets None packets fault is = absurd (none-some fault is)
+late_packets (Some most) packets fault is = late_if (nat_lt most packets) (TooManyPackets packets) fault None tt (λ f e. absurd (none-some f e)) is
 
-late_limits : (limits : Limits) (ports : List (List Planned)) (fault : PlanFault) → over_limits limits ports ≡ Some fault → IsLate fault
+late_limits : (limits : Limits) (ports : List (List Planned)) (fault : PlanFault) → over_traffic limits ports ≡ Some fault → IsLate fault
 late_limits limits ports fault is =
-    late_either (first_over limits.slots 0 ports) (option_or (over_packets limits.packets ports) (over_work limits.cells ports)) fault
-    (late_over limits.slots 0 ports)
-    (λ later. late_either (over_packets limits.packets ports) (over_work limits.cells ports) later (late_packets limits.packets ports)
-    (late_work limits.cells ports)) is
+    let slots = map slots_of ports in
+    let packets = sum_by length ports in
+    let cells = total_work ports in
+    late_either (first_over limits.slots 0 slots) (option_or (over_packets limits.packets packets) (over_cells limits.cells cells)) fault
+    (late_over limits.slots 0 slots)
+    (λ later. late_either (over_packets limits.packets packets) (over_cells limits.cells cells) later (late_packets limits.packets packets)
+    (late_cells limits.cells cells)) is
 
 late_refusal : (terms : Terms) (table : List RouteLine) (captures : List CaptureFile) (fault : PlanFault)
     → refusal_of terms table captures ≡ Some fault → IsLate fault
 late_refusal terms table captures fault is =
     let traffic = traffic_of table (first_link captures) terms.speed captures in
     let limits = limits_for terms.long (length captures) in
-    late_either (mixed_links captures) (over_limits limits traffic) fault (mixed_late captures) (late_limits limits traffic) is
+    late_either (mixed_links captures) (over_traffic limits traffic) fault (mixed_late captures) (late_limits limits traffic) is
   where
     mixed_late : (captures : List CaptureFile) (fault : PlanFault) → mixed_links captures ≡ Some fault → IsLate fault
     mixed_late captures fault is = late_mixed _ _ fault is

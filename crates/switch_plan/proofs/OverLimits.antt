@@ -1,13 +1,11 @@
 -- The first limit that planned ports pass: that which the traffic of their captures passes, whether a port's slots fit in 32 bits or not.
-use Rattle.std.proofs.Common.{◌≡◌, ◌∙◌, ℕ, suc, ◌+◌, ◌<◌, ◌≤◌, ◌^◌, true, false, List, [], ◌∷◌, length, drop, slice_index_or, Option, None, Some}
-use Rattle.std.proofs.Common.{if◌then◌else◌, refl, ap, sym, subst, arith}
+use Rattle.std.proofs.Common.{◌≡◌, ◌∙◌, ℕ, suc, ◌+◌, ◌≤◌, ◌^◌, false, List, [], ◌∷◌, length, Option, None, Some}
+use Rattle.std.proofs.Common.{refl, ap, sym, subst, arith}
 use Rattle.std.specs.Prelude.{map, nat_lt, sum_by, slice_get, All, IfSome}
 use Rattle.std.specs.Option.{option_or}
-use Rattle.std.proofs.Math.Seq.{drop-cons}
-use Rattle.std.proofs.Math.Numerals.{suc-eq-add-one}
 use Rattle.std.proofs.Math.ListN.{get_or-map as get_or-map_same}
 use Rattle.std.proofs.lemmas.Bool.Decides.{nat_tests}
-use Rattle.std.proofs.lemmas.List.{length-map, drop_all}
+use Rattle.std.proofs.lemmas.List.{length-map}
 use Rattle.std.proofs.lemmas.List.Elements.{All-nil, All-cons}
 use Rattle.std.proofs.lemmas.List.Folds.{fold-map}
 use Rattle.std.proofs.lemmas.List.Sums.{sum_by-cons}
@@ -23,9 +21,9 @@ use Rattle.switch_plan.specs.declared.limits.Limits.{Limits}
 use Rattle.switch_plan.specs.declared.port_plans.PortPlan.{PortPlan}
 use Rattle.switch_plan.specs.Traffic.{unplaced}
 use Rattle.switch_plan.specs.Totals.{slots_of, work_of, total_work}
-use Rattle.switch_plan.specs.Refusals.{first_over, over_packets, over_work, over_limits}
+use Rattle.switch_plan.specs.Refusals.{first_over, over_packets, over_cells, over_traffic}
 use Rattle.switch_plan.specs.PortSteps.{traffic_at, ArePortPlansOf}
-use Rattle.switch_plan.specs.JobSteps.{packets_of_ports, first_slots_over, over_ports}
+use Rattle.switch_plan.specs.JobSteps.{packets_of_ports, over_ports}
 use Rattle.switch_plan.proofs.Alike.{none_first}
 use Rattle.switch_plan.proofs.Placed.{traffic_slots_at}
 
@@ -54,43 +52,16 @@ sum_unplaced F same (packets ∷ ports) =
 abbrev pub slots_in : List PortPlan → List ℕ
 slots_in ports = map (λ (port : PortPlan). port.slots) ports
 
--- a limit that is kept is passed over, and one that is not is named
-pub kept_limit : {A : Type 0} (most n : ℕ) (x y : A) → n ≤ most → (if nat_lt most n then x else y) ≡ y
-kept_limit most n x y within = let no : nat_lt most n ≡ false = grind (arith, nat_tests) in rw no refl
-
-pub over_limit : {A : Type 0} (most n : ℕ) (x y : A) → most < n → (if nat_lt most n then x else y) ≡ x
-over_limit most n x y over = let yes_ : nat_lt most n ≡ true = grind (arith, nat_tests) in rw yes_ refl
-
+-- what is not over a limit is within it
 limit_is_kept : (most n : ℕ) → nat_lt most n ≡ false → n ≤ most
 limit_is_kept most n clear = grind (arith, nat_tests)
 
--- as far as a loop has come: the next port, and those after it
-pub slots_step : (most : ℕ) (ports : List PortPlan) (k : ℕ) (port : PortPlan) → k < length ports → port ≡ slice_index_or ports k port
-    → first_slots_over most k (drop k (slots_in ports))
-    ≡ (if nat_lt most port.slots then Some (TooManySlots k port.slots) else first_slots_over most (k + 1) (drop (k + 1) (slots_in ports)))
-slots_step most ports k port inside at =
-    let slots = slots_in ports in
-    ap (first_slots_over most k)
-    (drop-cons slots k port.slots (omega (arith, length-map ports (λ (p : PortPlan). p.slots)))
-    ∙ ap (λ n. n ∷ drop (suc k) slots) (get_or-map_same (λ (p : PortPlan). p.slots) ports k port ∙ ap (λ (p : PortPlan). p.slots) (sym at))
-    ∙ ap (λ j. port.slots ∷ drop j slots) (suc-eq-add-one k))
-
-pub slots_end : (most : ℕ) (ports : List PortPlan) (k : ℕ) → length ports ≤ k → first_slots_over most k (drop k (slots_in ports)) ≡ None
-slots_end most ports k past =
-    ap (first_slots_over most k) (drop_all k (slots_in ports) (omega (arith, length-map ports (λ (p : PortPlan). p.slots))))
-
 -- where no port is over the limit, each is within it
-slots_within : (most port : ℕ) (slots : List ℕ) → first_slots_over most port slots ≡ None → All (λ n. n ≤ most) slots
+slots_within : (most port : ℕ) (slots : List ℕ) → first_over most port slots ≡ None → All (λ n. n ≤ most) slots
 slots_within most port [] none = All-nil (λ n. n ≤ most)
 slots_within most port (n ∷ slots) none =
-    let both = none_first (nat_lt most n) (TooManySlots port n) (first_slots_over most (port + 1) slots) none in
+    let both = none_first (nat_lt most n) (TooManySlots port n) (first_over most (port + 1) slots) none in
     All-cons (λ m. m ≤ most) n slots (limit_is_kept most n both.0) (slots_within most (port + 1) slots both.1)
-
--- the first port of traffic over the limit is so by its slots
-slots_first : (most port : ℕ) (ports : List (List Planned)) → first_over most port ports ≡ first_slots_over most port (map slots_of ports)
-slots_first most port [] = refl
-slots_first most port (packets ∷ ports) =
-    ap (λ later. if nat_lt most (slots_of packets) then Some (TooManySlots port (slots_of packets)) else later) (slots_first most (port + 1) ports)
 
 -- ---- all limits
 -- of three limits of which none is passed
@@ -98,13 +69,12 @@ none_passed : (a b : Option PlanFault) → option_or a b ≡ None → (a ≡ Non
 none_passed None b none = (refl, none)
 none_passed (Some fault) b none = absurd (cc)
 
-packets_within : (most : Option ℕ) (ports : List (List Planned)) → over_packets most ports ≡ None → IfSome most (λ n. sum_by length ports ≤ n)
-packets_within None ports none = tt
-packets_within (Some most) ports none =
-    limit_is_kept most (sum_by length ports) (none_first (nat_lt most (sum_by length ports)) (TooManyPackets (sum_by length ports)) None none).0
+packets_within : (most : Option ℕ) (packets : ℕ) → over_packets most packets ≡ None → IfSome most (λ n. packets ≤ n)
+packets_within None packets none = tt
+packets_within (Some most) packets none = limit_is_kept most packets (none_first (nat_lt most packets) (TooManyPackets packets) None none).0
 
-work_within : (most : ℕ) (ports : List (List Planned)) → over_work most ports ≡ None → total_work ports ≤ most
-work_within most ports none = limit_is_kept most (total_work ports) (none_first (nat_lt most (total_work ports)) (TooManyCells (total_work ports)) None none).0
+cells_within : (most cells : ℕ) → over_cells most cells ≡ None → cells ≤ most
+cells_within most cells none = limit_is_kept most cells (none_first (nat_lt most cells) (TooManyCells cells) None none).0
 
 -- ports within limits
 pub record AreWithin (limits : Limits) (ports : List PortPlan) : Type 0 where
@@ -112,7 +82,7 @@ pub record AreWithin (limits : Limits) (ports : List PortPlan) : Type 0 where
   pub packets : IfSome limits.packets (λ most. sum_by length (packets_of_ports ports) ≤ most)
   pub cells : total_work (packets_of_ports ports) ≤ limits.cells
 
-each_within : (most : ℕ) (ports : List PortPlan) → first_slots_over most 0 (slots_in ports) ≡ None → (k : ℕ) (port : PortPlan) → slice_get ports k ≡ Some port
+each_within : (most : ℕ) (ports : List PortPlan) → first_over most 0 (slots_in ports) ≡ None → (k : ℕ) (port : PortPlan) → slice_get ports k ≡ Some port
     → port.slots ≤ most
 each_within most ports none k port at =
     subst (λ n. n ≤ most)
@@ -122,15 +92,14 @@ each_within most ports none k port at =
 
 pub within_from : (limits : Limits) (ports : List PortPlan) → over_ports limits ports ≡ None → AreWithin limits ports
 within_from limits ports none =
-    let packets = packets_of_ports ports in
-    let first = none_passed (first_slots_over limits.slots 0 (slots_in ports))
-    (option_or (over_packets limits.packets packets) (over_work limits.cells packets))
-    none in
-    let rest = none_passed (over_packets limits.packets packets) (over_work limits.cells packets) first.1 in
+    let packets = sum_by length (packets_of_ports ports) in
+    let cells = total_work (packets_of_ports ports) in
+    let first = none_passed (first_over limits.slots 0 (slots_in ports)) (option_or (over_packets limits.packets packets) (over_cells limits.cells cells)) none in
+    let rest = none_passed (over_packets limits.packets packets) (over_cells limits.cells cells) first.1 in
     record {
       slots = each_within limits.slots ports first.0;
       packets = packets_within limits.packets packets rest.0;
-      cells = work_within limits.cells packets rest.1;
+      cells = cells_within limits.cells cells rest.1;
     }
 
 module _ (table : List RouteLine) (pace : Pace) (captures : List Capture) (ports : List PortPlan) (are : ArePortPlansOf table pace captures ports) where
@@ -150,28 +119,22 @@ module _ (table : List RouteLine) (pace : Pace) (captures : List Capture) (ports
       ∙ sym (map-map (map unplaced) (λ (port : PortPlan). port.packets.items) ports)
 
   -- so the first limit that the ports pass is the first that the traffic passes
-  pub over_same : (limits : Limits) → limits.slots ≤ 2 ^ 32 → over_limits limits (map (traffic_at table pace) captures) ≡ over_ports limits ports
+  pub over_same : (limits : Limits) → limits.slots ≤ 2 ^ 32 → over_traffic limits (map (traffic_at table pace) captures) ≡ over_ports limits ports
   over_same limits short =
       let traffic = map (traffic_at table pace) captures in
       let packets = packets_of_ports ports in
-      let slots = slots_first limits.slots 0 traffic ∙ ap (first_slots_over limits.slots 0) traffic_slots in
-      ap (λ first. option_or first (option_or (over_packets limits.packets traffic) (over_work limits.cells traffic))) slots
-      ∙ rest_same (first_slots_over limits.slots 0 (slots_in ports)) (option_or (over_packets limits.packets traffic) (over_work limits.cells traffic))
-      (option_or (over_packets limits.packets packets) (over_work limits.cells packets))
+      let rest = λ (them : List (List Planned)). option_or (over_packets limits.packets (sum_by length them)) (over_cells limits.cells (total_work them)) in
+      ap (λ slots. option_or (first_over limits.slots 0 slots) (rest traffic)) traffic_slots
+      ∙ rest_same (first_over limits.slots 0 (slots_in ports)) (rest traffic) (rest packets)
       (λ none.
       let is = traffic_is (λ k port at. let within = each_within limits.slots ports none k port at in omega arith) in
       let many : sum_by length traffic ≡ sum_by length packets = ap (sum_by length) is
       ∙ sum_unplaced length (λ ps. length-map ps unplaced) packets in
       let work : total_work traffic ≡ total_work packets = ap total_work is
       ∙ sum_unplaced (sum_by work_of) (λ ps. fold-map (λ so_far packet. so_far + work_of packet) unplaced 0 ps) packets in
-      ap (λ first. option_or first (over_work limits.cells traffic)) (same_packets limits.packets traffic packets many)
-      ∙ ap (option_or (over_packets limits.packets packets)) (ap (λ n. if nat_lt limits.cells n then Some (TooManyCells n) else None) work))
+      ap (λ n. option_or (over_packets limits.packets n) (over_cells limits.cells (total_work traffic))) many
+      ∙ ap (λ n. option_or (over_packets limits.packets (sum_by length packets)) (over_cells limits.cells n)) work)
     where
       rest_same : (first a b : Option PlanFault) → (first ≡ None → a ≡ b) → option_or first a ≡ option_or first b
       rest_same None a b same = same refl
       rest_same (Some fault) a b same = refl
-
-      same_packets : (most : Option ℕ) (these others : List (List Planned)) → sum_by length these ≡ sum_by length others
-          → over_packets most these ≡ over_packets most others
-      same_packets None these others same = refl
-      same_packets (Some most) these others same = ap (λ n. if nat_lt most n then Some (TooManyPackets n) else None) same

@@ -8,7 +8,7 @@ use Rattle.pcap_records.specs.declared.capture.Capture.{Capture}
 use Rattle.forward_table.specs.declared.route_lines.RouteLine.{RouteLine}
 use Rattle.switch_plan.specs.declared.port_plans.PortPlan.{PortPlan}
 use Rattle.switch_plan.specs.Traffic.{file_of, pace_of, traffic_of}
-use Rattle.switch_plan.specs.Refusals.{Terms, first_link, mixed_links, limits_for, over_limits, refusal_of}
+use Rattle.switch_plan.specs.Refusals.{Terms, first_link, mixed_links, limits_for, over_traffic, refusal_of}
 use Rattle.switch_plan.specs.PortSteps.{ArePortPlansOf}
 use Rattle.switch_plan.specs.JobSteps.{over_ports}
 use Rattle.switch_plan.proofs.Alike.{traffic_same}
@@ -22,7 +22,7 @@ refusal_is table terms pace n captures ports n_is pace_is unmixed are =
     let files = map file_of captures in
     let traffic = traffic_of table (first_link files) terms.speed files in
     let short = limits_short terms.long n in
-    ap (λ mixed. option_or mixed (over_limits (limits_for terms.long (length files)) traffic)) unmixed
-    ∙ ap (λ count. over_limits (limits_for terms.long count) traffic) (length-map captures file_of ∙ sym n_is)
-    ∙ ap (over_limits (limits_for terms.long n)) (sym (traffic_same table terms.speed pace captures pace_is unmixed))
+    ap (λ mixed. option_or mixed (over_traffic (limits_for terms.long (length files)) traffic)) unmixed
+    ∙ ap (λ count. over_traffic (limits_for terms.long count) traffic) (length-map captures file_of ∙ sym n_is)
+    ∙ ap (over_traffic (limits_for terms.long n)) (sym (traffic_same table terms.speed pace captures pace_is unmixed))
     ∙ over_same table pace captures ports are (limits_for terms.long n) (omega (arith, short))

@@ -1,7 +1,6 @@
 -- A plan made of planned ports: the words of the calls inside.
-use Rattle.std.specs.Prelude.{◌≡◌, ℕ, ◌+◌, ◌^◌, ◌<◌, ◌≤◌, nat_lt, Bool, false, if◌then◌else◌, List, [], ◌∷◌, length, map, sum_by, count_by}
+use Rattle.std.specs.Prelude.{◌≡◌, ℕ, ◌+◌, ◌^◌, ◌<◌, ◌≤◌, Bool, false, List, length, map, sum_by, count_by}
 use Rattle.std.specs.Prelude.{All, Option, None, Some, slice_get}
-use Rattle.std.specs.Option.{option_or}
 use Rattle.rotating_pick.specs.declared.limits.TheConstants.{MAX_PORTS}
 use Rattle.pcap_records.specs.declared.link.Link.{Link}
 use Rattle.pcap_records.specs.declared.capture.Capture.{Capture}
@@ -10,13 +9,12 @@ use Rattle.card_core.specs.declared.plan.Planned.{Planned}
 use Rattle.card_core.specs.declared.plan.CardPlan.{CardPlan}
 use Rattle.switch_words.specs.declared.job.Settings.{Settings}
 use Rattle.switch_plan.specs.declared.fault.PlanFault.{PlanFault}
-use Rattle.switch_plan.specs.declared.fault.PlanFault.TheVariants.{TooManySlots}
 use Rattle.switch_plan.specs.declared.limits.Limits.{Limits}
 use Rattle.switch_plan.specs.declared.plan.Plan.{Plan}
 use Rattle.switch_plan.specs.declared.port_plans.PortPlan.{PortPlan}
-use Rattle.switch_plan.specs.Totals.{slots_of, total_aside, max_slots_of, sizes_for, body_room_for, packet_room_for}
+use Rattle.switch_plan.specs.Totals.{slots_of, total_work, total_aside, max_slots_of, sizes_for, body_room_for, packet_room_for}
 use Rattle.switch_plan.specs.Traffic.{file_of}
-use Rattle.switch_plan.specs.Refusals.{over_packets, over_work, terms_of, limits_for, refusal_of}
+use Rattle.switch_plan.specs.Refusals.{over_limits, terms_of, limits_for, refusal_of}
 use Rattle.switch_plan.specs.PortSteps.{is_long, IsPlanned}
 use Rattle.switch_plan.specs.GoodPlans.{switch_plan_of, IsGood, IsBurst, IsWithin, IsPlanOf}
 
@@ -28,17 +26,10 @@ packets_of_ports ports = map (λ port. port.packets.items) ports
 abbrev pub HasSlots : PortPlan → Type 0
 HasSlots port = port.slots ≡ slots_of port.packets.items
 
--- the first of these numbers of arrival slots that is over `most`; they are those of the ports from `port` on
-abbrev pub first_slots_over : ℕ → ℕ → List ℕ → Option PlanFault
-first_slots_over most port [] = None
-first_slots_over most port (slots ∷ ports) =
-    if nat_lt most slots then Some (TooManySlots port slots) else first_slots_over most (port + 1) ports
-
 -- the first limit that these ports pass
 abbrev pub over_ports : Limits → List PortPlan → Option PlanFault
 over_ports limits ports =
-    option_or (first_slots_over limits.slots 0 (map (λ port. port.slots) ports))
-    (option_or (over_packets limits.packets (packets_of_ports ports)) (over_work limits.cells (packets_of_ports ports)))
+    over_limits limits (map (λ port. port.slots) ports) (sum_by length (packets_of_ports ports)) (total_work (packets_of_ports ports))
 
 -- ports of which a plan can be made, with all its counts in numbers of 32 bits
 pub record AreFit (ports : List PortPlan) : Type 0 where

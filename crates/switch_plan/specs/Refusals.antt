@@ -36,20 +36,19 @@ mixed_links captures =
     option_map (MixedLink (link_type (first_link captures)))
     (find (λ other. not (other == link_type (first_link captures))) (map (λ capture. link_type capture.link) captures))
 
--- the first of these ports that has more than `most` arrival slots; they are numbered from `port` on
-abbrev pub first_over : ℕ → ℕ → List (List Planned) → Option PlanFault
+-- the first of these numbers of arrival slots that is more than `most`; they are those of the ports from `port` on
+abbrev pub first_over : ℕ → ℕ → List ℕ → Option PlanFault
 first_over most port [] = None
-first_over most port (packets ∷ ports) =
-    if nat_lt most (slots_of packets) then Some (TooManySlots port (slots_of packets)) else first_over most (port + 1) ports
+first_over most port (slots ∷ ports) = if nat_lt most slots then Some (TooManySlots port slots) else first_over most (port + 1) ports
 
--- all packets together have more than `most` cells, counted for each output
-abbrev pub over_work : ℕ → List (List Planned) → Option PlanFault
-over_work most ports = if nat_lt most (total_work ports) then Some (TooManyCells (total_work ports)) else None
+-- all captures together have so many packets, more than this limit, where there is one
+abbrev pub over_packets : Option ℕ → ℕ → Option PlanFault
+over_packets None packets = None
+over_packets (Some most) packets = if nat_lt most packets then Some (TooManyPackets packets) else None
 
--- all captures together have more packets than this, where there is such a limit
-abbrev pub over_packets : Option ℕ → List (List Planned) → Option PlanFault
-over_packets None ports = None
-over_packets (Some most) ports = if nat_lt most (sum_by length ports) then Some (TooManyPackets (sum_by length ports)) else None
+-- all packets together have so many cells, counted for each output, more than `most`
+abbrev pub over_cells : ℕ → ℕ → Option PlanFault
+over_cells most cells = if nat_lt most cells then Some (TooManyCells cells) else None
 
 -- the limits of a burst, by the number of ports
 abbrev pub burst_limits : ℕ → Limits
@@ -63,10 +62,14 @@ long_limits = record { slots = MAX_LONG_SLOTS; packets = Some MAX_LONG_PACKETS; 
 abbrev pub limits_for : Bool → ℕ → Limits
 limits_for long ports = if long then long_limits else burst_limits ports
 
--- the first limit that the packets of all ports pass: slots, packets, cells
-abbrev pub over_limits : Limits → List (List Planned) → Option PlanFault
-over_limits limits ports =
-    option_or (first_over limits.slots 0 ports) (option_or (over_packets limits.packets ports) (over_work limits.cells ports))
+-- the first limit that ports of so many arrival slots each, so many packets and so many cells pass: slots, packets, cells
+abbrev pub over_limits : Limits → List ℕ → ℕ → ℕ → Option PlanFault
+over_limits limits slots packets cells =
+    option_or (first_over limits.slots 0 slots) (option_or (over_packets limits.packets packets) (over_cells limits.cells cells))
+
+-- that which the packets of all ports pass
+abbrev pub over_traffic : Limits → List (List Planned) → Option PlanFault
+over_traffic limits ports = over_limits limits (map slots_of ports) (sum_by length ports) (total_work ports)
 
 -- What of a job's settings its refusal goes by: how fast packets come, and whether it is long.
 pub record Terms : Type 0 where
@@ -81,7 +84,7 @@ terms_of settings = record { speed = settings.speed; long = settings.long }
 abbrev pub refusal_of : Terms → List RouteLine → List CaptureFile → Option PlanFault
 refusal_of terms table captures =
     option_or (mixed_links captures)
-    (over_limits (limits_for terms.long (length captures)) (traffic_of table (first_link captures) terms.speed captures))
+    (over_traffic (limits_for terms.long (length captures)) (traffic_of table (first_link captures) terms.speed captures))
 
 -- the text and the files are this table and these captures
 pub record AreRead (text : List ℕ) (files : List (List ℕ)) (table : List RouteLine) (captures : List CaptureFile) : Type 0 where

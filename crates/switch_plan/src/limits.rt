@@ -1,7 +1,8 @@
-ghost use Rattle.std.specs.Prelude.{◌≡◌, ◌<◌, ◌≤◌, ℕ, Some, None};
+ghost use Rattle.std.specs.Prelude.{◌≡◌, ◌<◌, ◌≤◌, ℕ, length, Some, None};
 ghost use Rattle.switch_plan.specs.Totals.{most_for};
-ghost use Rattle.switch_plan.specs.Refusals.{burst_limits, long_limits, limits_for};
+ghost use Rattle.switch_plan.specs.Refusals.{burst_limits, long_limits, limits_for, first_over, over_packets, over_cells, over_limits};
 
+use crate::fault::PlanFault;
 use cell_cutter::MAX_FORWARDED_BYTES;
 use rotating_pick::{MAX_FILE_BYTES, MAX_PORTS};
 
@@ -56,6 +57,53 @@ impl Limits {
             cells: most,
         }
     }
+
+    /// The first limit that is passed by ports of so many arrival slots each, 64 of them at most, whose captures have so
+    /// many packets in all, which bring so many cells to their outputs: that on the slots of the least port, that on
+    /// packets, or that on cells. None where none is passed.
+    pub fn passed(&self, slots: &[u64], packets: u64, cells: u64) -> Option<PlanFault>
+        requires { length slots.now ≤ MAX_PORTS }
+        ensures { result ≡ over_limits self.now slots.now packets cells }
+    {
+        first_over(self.slots, slots)
+            .or(over_packets(self.packets, packets))
+            .or(over_cells(self.cells, cells))
+    }
+}
+
+// The first of these ports, each given by its arrival slots, that has more than the limit.
+fn first_over(most: u64, ports: &[u64]) -> Option<PlanFault>
+    requires { length ports.now ≤ MAX_PORTS }
+    ensures { result ≡ first_over most 0 ports.now }
+{
+    for port in 0..ports.len() {
+        let slots = ports[port];
+        if slots > most {
+            let port = port as u32;
+            return Some(PlanFault::TooManySlots { port, slots });
+        }
+    }
+    None
+}
+
+// So many packets, where they are more than the limit, if there is one.
+fn over_packets(most: Option<u64>, packets: u64) -> Option<PlanFault>
+    ensures { result ≡ over_packets most packets }
+{
+    match most {
+        Some(most) if packets > most => Some(PlanFault::TooManyPackets { packets }),
+        _ => None,
+    }
+}
+
+// So many cells, where they are more than the limit.
+fn over_cells(most: u64, cells: u64) -> Option<PlanFault>
+    ensures { result ≡ over_cells most cells }
+{
+    if cells > most {
+        return Some(PlanFault::TooManyCells { cells });
+    }
+    None
 }
 
 /// The limit on a port's arrival slots, and on the cells of all packets counted for each output, for a

@@ -1,8 +1,7 @@
-ghost use Rattle.std.specs.Prelude.{◌≡◌, ◌<◌, ◌≤◌, length, map, All, sum_by, count_by, None, Some, OnOk, IfErr};
+ghost use Rattle.std.specs.Prelude.{◌≡◌, ◌<◌, ◌≤◌, length, map, take, All, sum_by, count_by, None, Some, OnOk, IfErr};
 ghost use Rattle.switch_plan.specs.Totals.{total_work, total_aside, greatest_slots};
-ghost use Rattle.switch_plan.specs.Refusals.{over_packets, over_work};
 ghost use Rattle.switch_plan.specs.PortSteps.{is_long, IsPlanned};
-ghost use Rattle.switch_plan.specs.JobSteps.{packets_of_ports, HasSlots, first_slots_over, over_ports};
+ghost use Rattle.switch_plan.specs.JobSteps.{packets_of_ports, HasSlots, over_ports};
 
 use crate::fault::PlanFault;
 use crate::limits::Limits;
@@ -17,56 +16,25 @@ pub(crate) fn are_within(limits: &Limits, ports: &[PortPlan]) -> Result<(), Plan
     ensures within { OnOk result (over_ports limits.now ports.now ≡ None) }
     ensures over { IfErr result (λ fault. over_ports limits.now ports.now ≡ Some fault) }
 {
-    are_short(limits.slots, ports)?;
-    are_few(limits.packets, ports)?;
-    are_light(limits.cells, ports)
-}
-
-// Judges whether each port has at most this many arrival slots.
-fn are_short(most: u64, ports: &[PortPlan]) -> Result<(), PlanFault>
-    requires { length ports.now ≤ MAX_PORTS }
-    ensures within { OnOk result (first_slots_over most 0 (map (λ port. port.slots) ports.now) ≡ None) }
-    ensures over { IfErr result (λ fault. first_slots_over most 0 (map (λ port. port.slots) ports.now) ≡ Some fault) }
-{
-    for port in 0..ports.len() {
-        let slots = ports[port].slots;
-        if slots > most {
-            let port = port as u32;
-            return Err(PlanFault::TooManySlots { port, slots });
-        }
-    }
-    Ok(())
-}
-
-// Judges whether all ports together have at most this many packets, where there is such a limit.
-fn are_few(most: Option<u64>, ports: &[PortPlan]) -> Result<(), PlanFault>
-    requires few { length ports.now ≤ MAX_PORTS }
-    requires planned { All IsPlanned ports.now }
-    ensures within { OnOk result (over_packets most (packets_of_ports ports.now) ≡ None) }
-    ensures over { IfErr result (λ fault. over_packets most (packets_of_ports ports.now) ≡ Some fault) }
-{
-    let Some(most) = most else {
-        return Ok(());
-    };
+    let slots = slots_by_port(ports);
     let packets = total_packets(ports);
-    if packets > most {
-        return Err(PlanFault::TooManyPackets { packets });
+    let cells = total_work(ports);
+    match limits.passed(&slots[..ports.len()], packets, cells) {
+        Some(fault) => Err(fault),
+        None => Ok(()),
     }
-    Ok(())
 }
 
-// Judges whether the packets of all ports bring at most this many cells to their outputs.
-fn are_light(most: u64, ports: &[PortPlan]) -> Result<(), PlanFault>
-    requires few { length ports.now ≤ MAX_PORTS }
-    requires planned { All IsPlanned ports.now }
-    ensures within { OnOk result (over_work most (packets_of_ports ports.now) ≡ None) }
-    ensures over { IfErr result (λ fault. over_work most (packets_of_ports ports.now) ≡ Some fault) }
+// The arrival slots of each port.
+fn slots_by_port(ports: &[PortPlan]) -> [u64; MAX_PORTS as usize]
+    requires { length ports.now ≤ MAX_PORTS }
+    ensures { take (length ports.now) result ≡ map (λ port. port.slots) ports.now }
 {
-    let cells = total_work(ports);
-    if cells > most {
-        return Err(PlanFault::TooManyCells { cells });
+    let mut slots = [0; MAX_PORTS as usize];
+    for port in 0..ports.len() {
+        slots[port] = ports[port].slots;
     }
-    Ok(())
+    slots
 }
 
 // How many packets all ports have.

@@ -20,7 +20,7 @@ use Rattle.switch_words.specs.Reading.{JobWords, run, gen, check, firm}
 use Rattle.switch_plan.specs.declared.limits.TheConstants.{MAX_LONG_SLOTS, MAX_LONG_PACKETS, MAX_LONG_CELLS}
 use Rattle.switch_plan.specs.Traffic.{CaptureFile, traffic_of, unplaced}
 use Rattle.switch_plan.specs.Totals.{most_for, slots_of, total_work}
-use Rattle.switch_plan.specs.Refusals.{burst_limits, first_link, first_over, long_limits, mixed_links, over_limits, over_packets, over_work, refusal_of}
+use Rattle.switch_plan.specs.Refusals.{burst_limits, first_link, first_over, long_limits, mixed_links, over_traffic, over_packets, over_cells, refusal_of}
 use Rattle.switch_plan.specs.Refusals.{terms_of}
 use Rattle.switch_plan.specs.GoodPlans.{SwitchPlan, IsGood, IsBurst, IsPlanOf, packets_in}
 use Rattle.switch_plan.proofs.RoomBounds.{most_few}
@@ -41,29 +41,31 @@ both_none (Some x) b none = absurd (cc)
 none_of_both : {A : Type 0} (a b : Option A) → a ≡ None → b ≡ None → option_or a b ≡ None
 none_of_both a b first second = rw first second
 
-wider_slots : (most more port : ℕ) (ports : List (List Planned)) → most ≤ more → first_over most port ports ≡ None → first_over more port ports ≡ None
+wider_slots : (most more port : ℕ) (ports : List ℕ) → most ≤ more → first_over most port ports ≡ None → first_over more port ports ≡ None
 wider_slots most more port [] wide none = refl
-wider_slots most more port (packets ∷ ports) wide none = elim (cases_lt most (slots_of packets)) [
-  | inl over ↦ let told = rw (lt-ltb most (slots_of packets) over) at none in absurd (cc)
-  | inr within ↦ rw (le-ltb more (slots_of packets) (omega (arith, within, wide)))
-      (wider_slots most more (port + 1) ports wide (rw (le-ltb most (slots_of packets) within) at none))
+wider_slots most more port (slots ∷ ports) wide none = elim (cases_lt most slots) [
+  | inl over ↦ let told = rw (lt-ltb most slots over) at none in absurd (cc)
+  | inr within ↦ rw (le-ltb more slots (omega (arith, within, wide)))
+      (wider_slots most more (port + 1) ports wide (rw (le-ltb most slots within) at none))
 ]
 
-wider_work : (most more : ℕ) (ports : List (List Planned)) → most ≤ more → over_work most ports ≡ None → over_work more ports ≡ None
-wider_work most more ports wide none = elim (cases_lt most (total_work ports)) [
-  | inl over ↦ let told = rw (lt-ltb most (total_work ports) over) at none in absurd (cc)
-  | inr within ↦ rw (le-ltb more (total_work ports) (omega (arith, within, wide))) refl
+wider_cells : (most more cells : ℕ) → most ≤ more → over_cells most cells ≡ None → over_cells more cells ≡ None
+wider_cells most more cells wide none = elim (cases_lt most cells) [
+  | inl over ↦ let told = rw (lt-ltb most cells over) at none in absurd (cc)
+  | inr within ↦ rw (le-ltb more cells (omega (arith, within, wide))) refl
 ]
 
-wider_limits : (n : ℕ) (ports : List (List Planned)) → sum_by length ports ≤ MAX_LONG_PACKETS → over_limits (burst_limits n) ports ≡ None
-    → over_limits long_limits ports ≡ None
+wider_limits : (n : ℕ) (ports : List (List Planned)) → sum_by length ports ≤ MAX_LONG_PACKETS → over_traffic (burst_limits n) ports ≡ None
+    → over_traffic long_limits ports ≡ None
 wider_limits n ports packets none =
-    let (slots, work) = both_none (first_over (most_for n) 0 ports) (over_work (most_for n) ports) none in
+    let slots = map slots_of ports in
+    let cells = total_work ports in
+    let (short, light) = both_none (first_over (most_for n) 0 slots) (over_cells (most_for n) cells) none in
     let few = most_few n in
-    let no_packets : over_packets (Some MAX_LONG_PACKETS) ports ≡ None = rw (le-ltb MAX_LONG_PACKETS (sum_by length ports) packets) refl in
-    none_of_both (first_over MAX_LONG_SLOTS 0 ports) _ (wider_slots (most_for n) MAX_LONG_SLOTS 0 ports (omega (arith, few)) slots)
-    (none_of_both (over_packets (Some MAX_LONG_PACKETS) ports) (over_work MAX_LONG_CELLS ports) no_packets
-    (wider_work (most_for n) MAX_LONG_CELLS ports (omega (arith, few)) work))
+    let no_packets : over_packets (Some MAX_LONG_PACKETS) (sum_by length ports) ≡ None = rw (le-ltb MAX_LONG_PACKETS (sum_by length ports) packets) refl in
+    none_of_both (first_over MAX_LONG_SLOTS 0 slots) _ (wider_slots (most_for n) MAX_LONG_SLOTS 0 slots (omega (arith, few)) short)
+    (none_of_both (over_packets (Some MAX_LONG_PACKETS) (sum_by length ports)) (over_cells MAX_LONG_CELLS cells) no_packets
+    (wider_cells (most_for n) MAX_LONG_CELLS cells (omega (arith, few)) light))
 
 wider : (speed : Speed) (long : Bool) (lines : List RouteLine) (captures : List CaptureFile)
     → (long ≡ false → sum_by length (traffic_of lines (first_link captures) speed captures) ≤ MAX_LONG_PACKETS)
@@ -71,8 +73,8 @@ wider : (speed : Speed) (long : Bool) (lines : List RouteLine) (captures : List 
 wider speed true lines captures few none = none
 wider speed false lines captures few none =
     let ports = traffic_of lines (first_link captures) speed captures in
-    let (links, limits) = both_none (mixed_links captures) (over_limits (burst_limits (length captures)) ports) none in
-    none_of_both (mixed_links captures) (over_limits long_limits ports) links (wider_limits (length captures) ports (few refl) limits)
+    let (links, limits) = both_none (mixed_links captures) (over_traffic (burst_limits (length captures)) ports) none in
+    none_of_both (mixed_links captures) (over_traffic long_limits ports) links (wider_limits (length captures) ports (few refl) limits)
 
 -- a burst has few packets
 packets_few : (plan : SwitchPlan) → IsGood plan → IsBurst plan → sum_by length (map (map unplaced) (packets_in plan)) ≤ MAX_LONG_PACKETS

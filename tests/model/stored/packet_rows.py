@@ -5,9 +5,9 @@ from __future__ import annotations
 from typing import Dict, List
 
 from ..captures import Packet, capture_bytes, header_bytes, read_capture, record_bytes
-from ..faults import Fault
+from ..faults import Fault, Refusal
 from ..messages import Reassembly, cell_bytes, cells_of, cut, read_cell
-from ..plans import MOST_SLOTS, arrivals_of, slots_of
+from ..plans import MOST_SLOTS, Limits, arrivals_of, not_over, slots_of
 from ..rows import LETTERS
 from ..table import destination, read_table, route_of
 from . import forms
@@ -40,6 +40,18 @@ def speed_of(pace: str) -> Dict[str, int]:
     speed, base = pace.split(":")
     kind, _, number = speed.rpartition("=")
     return {kind or "pace": int(number), "base": int(base)}
+
+
+def limits(question: str) -> str:
+    """`NAME SLOTS:PACKETS:CELLS PORTS PACKETS CELLS`: the line of the first limit that is passed."""
+    _, most, ports, packets, cells = question.split()
+    slots, count, work = most.split(":")
+    told = Limits(int(slots), None if count == forms.NONE else int(count), int(work))
+    try:
+        not_over(told, list(map(int, ports.split(","))), int(packets), int(cells))
+    except Refusal as refusal:
+        return f'"{refusal.line.decode()}"'
+    return "none"
 
 
 def capture(data: bytes) -> str:
@@ -181,7 +193,7 @@ def message(question: str) -> str:
 
 
 REMAKES = {
-    **dict.fromkeys(("arrivals", "arrivals_at_line_rate"), arrowed(arrivals)),
+    **dict.fromkeys(("arrivals", "arrivals_at_line_rate"), arrowed(arrivals)), "limits": arrowed(limits),
     **dict.fromkeys(("captures", "captures_changed"), by_lines(CaptureRows)),
     "destinations": by_lines(DestinationRows), "tables": by_lines(TableRows), "cells": by_lines(CellRows),
     "reassembly": by_lines(ReassemblyRows), "messages": arrowed(message),
