@@ -1,0 +1,25 @@
+use Rattle.std.proofs.Common.{◌≡◌, ℕ, Some, ◌∙◌, ◌↔◌, sym, ap, refl}
+use Rattle.std.proofs.lemmas.Option.{same_Some}
+use Rattle.rotating_pick.specs.declared.kinds.Kind.TheVariants.{Uni}
+use Rattle.slot_match.specs.declared.matching.Fed.{Fed}
+use Rattle.slot_match.proofs.Pairs.{same_fed}
+use Rattle.eslip_rounds.proofs.Meeting.{AreMet-one, AreMet-along}
+use Rattle.unicast_slots.proofs.moves.meet_one.Goals as goal
+
+pub returns-in-Some-clause-met : goal.returns-in-Some-clause-met
+returns-in-Some-clause-met c =
+    let pair = c.in-Some.pair in
+    let made : Fed = record { input = pair.input; level = 0; kind = Uni } in
+    let only = c.requires.unicast pair c.in-Some.is in
+    let whole : c.args.fed ≡ Some made = c.in-Some.is ∙ ap Some (same_fed pair made refl only.0 only.1) in
+    let same : (i j level : ℕ) → ((i ≡ pair.input) × (j ≡ c.args.j) × (level ≡ 0))
+    ↔ ((j ≡ c.args.j) × (c.args.fed ≡ Some (record { input = i; level = level; kind = Uni }))) = λ i j level. (
+      λ p. (p.1, whole ∙ ap Some (same_fed made (record { input = i; level = level; kind = Uni }) (sym p.0) (sym p.2) refl)),
+      λ p.
+          let f : Fed = record { input = i; level = level; kind = Uni } in
+          let one = same_Some f made (sym p.1 ∙ whole) in
+          (ap (λ g. g.input) one, p.0, ap (λ g. g.level) one),
+    ) in
+    AreMet-along (λ i j level. (i ≡ pair.input) × (j ≡ c.args.j) × (level ≡ 0)) _ c.args.p.now c.met.new.self same
+    (AreMet-one pair.input c.args.j 0 c.args.p.now c.met.new.self c.met.ensures.ports c.met.ensures.grant c.met.ensures.accept c.met.ensures.grants
+    c.met.ensures.accepts c.met.ensures.shared)
