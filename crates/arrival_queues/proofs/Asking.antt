@@ -19,7 +19,7 @@ use Rattle.slot_match.proofs.Sets.{Has-same, Has-set_of}
 use Rattle.arrival_queues.specs.declared.cell.ArrivedCell.{ArrivedCell}
 use Rattle.arrival_queues.specs.declared.queueing.Queueing.{Queueing}
 use Rattle.arrival_queues.specs.Queues.{Queues, queue_count, queue_for, queues_where, empty_queues, head_of, is_between, is_asked, row_asking, rows_of}
-use Rattle.arrival_queues.specs.FieldSteps.{rows_asking}
+use Rattle.unicast_slots.specs.RowSteps.{rows_asking}
 use Rattle.arrival_queues.proofs.Changes.{at_same, at_other}
 
 -- ---- rows by what their inputs ask

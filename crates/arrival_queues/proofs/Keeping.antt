@@ -16,7 +16,8 @@ use Rattle.arrival_queues.specs.declared.queueing.Queueing.{Queueing}
 use Rattle.arrival_queues.specs.declared.queueing.Queueing.TheVariants.{ByPair, ByInput, ByOutput}
 use Rattle.arrival_queues.specs.Queues.{Queues, queue_at, queue_count, queue_of, queues_where, queues_with, queues_without_head, empty_queues, has_room, head_of, length_with, rows_of, held_count}
 use Rattle.arrival_queues.specs.Queues.{sum_of_arrivals, IsInQueue, AreQueues, HasPorts}
-use Rattle.arrival_queues.specs.FieldSteps.{QueueValue, cell_told, empty_queue, input_told, output_told, queue_made, port_untold, cells_of, queues_kept, rows_asking, AsksFor, AsksNoMore, AsksToo, HasEntered, IsOwn, AreKept}
+use Rattle.unicast_slots.specs.RowSteps.{AsksNoMore, AsksToo, rows_asking}
+use Rattle.arrival_queues.specs.FieldSteps.{QueueValue, cell_told, empty_queue, input_told, output_told, queue_made, port_untold, cells_of, queues_kept, AsksFor, HasEntered, IsOwn, AreKept}
 use Rattle.arrival_queues.proofs.Changes.{AreQueues-with, AreQueues-without, at_same, queue_of-lt, rest_at}
 use Rattle.arrival_queues.proofs.Counts.{arrivals-empty, arrivals-with, arrivals-without, held-empty, held-with, held-without}
 use Rattle.arrival_queues.proofs.Asking.{rows-empty, rows-less, rows-more, rows-stay, rows-within}

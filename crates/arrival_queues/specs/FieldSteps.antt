@@ -1,10 +1,8 @@
 -- How queues are kept: a ring of slots, and beside it one of the ports that the queue does not tell.
-use Rattle.std.specs.Prelude.{◌≡◌, ◌≢◌, ◌↔◌, ◌⊎◌, ℕ, ◌+◌, ◌/◌, ◌%◌, ◌^◌, ◌<◌, List, [], ◌∷◌, ◌++◌, Option, None, Some, length, map, drop, slice_index, slice_index_or, slice_set}
+use Rattle.std.specs.Prelude.{◌≡◌, ℕ, ◌+◌, ◌/◌, ◌%◌, ◌^◌, ◌<◌, List, [], ◌∷◌, ◌++◌, Option, None, Some, length, map, drop, slice_index, slice_index_or}
 use Rattle.circular_buffer.specs.Buffer.{Buffer}
-use Rattle.rotating_pick.specs.PortSets.{Has}
-use Rattle.rotating_pick.specs.declared.kinds.Kind.TheVariants.{Uni}
 use Rattle.slot_match.specs.declared.rows.Row.{Row}
-use Rattle.slot_match.specs.Rows.{Names, row_of}
+use Rattle.unicast_slots.specs.RowSteps.{AsksToo}
 use Rattle.arrival_queues.specs.declared.cell.ArrivedCell.{ArrivedCell}
 use Rattle.arrival_queues.specs.declared.queueing.Queueing.{Queueing}
 use Rattle.arrival_queues.specs.declared.queueing.Queueing.TheVariants.{ByPair, ByInput, ByOutput}
@@ -97,21 +95,6 @@ cells_of queues = map (λ queue. queue.cells) queues
 -- the queues of a switch, as they are kept
 abbrev pub queues_kept : ℕ → Queueing → ℕ → List QueueValue → Queues
 queues_kept ports queueing depth queues = record { ports = ports; queueing = queueing; depth = depth; cells = cells_of queues }
-
--- the rows, where the input asks for these outputs in place of those that it asked for
-abbrev pub rows_asking : List Row → ℕ → ℕ → List Row
-rows_asking rows input outputs =
-    slice_set rows input (record (row_of rows input) { uni = slice_set (row_of rows input).uni 0 outputs })
-
--- the rows, where the input asks for the output too
-abbrev pub AsksToo : List Row → List Row → ℕ → ℕ → Type 0
-AsksToo old new input output =
-    (outputs : ℕ) × (new ≡ rows_asking old input outputs) × ((j : ℕ) → Has outputs j ↔ ((j ≡ output) ⊎ Names (row_of old input) 0 Uni j))
-
--- the rows, where the input asks for the output no more
-abbrev pub AsksNoMore : List Row → List Row → ℕ → ℕ → Type 0
-AsksNoMore old new input output =
-    (outputs : ℕ) × (new ≡ rows_asking old input outputs) × ((j : ℕ) → Has outputs j ↔ ((j ≢ output) × Names (row_of old input) 0 Uni j))
 
 -- the rows, where a cell asks too, if there is one
 abbrev pub AsksFor : List Row → List Row → Option ArrivedCell → Type 0

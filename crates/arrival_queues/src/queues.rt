@@ -1,17 +1,18 @@
-ghost use Rattle.std.specs.Prelude.{◌≡◌, ◌≢◌, ◌*◌, ◌^◌, ◌<◌, ◌≤◌, length, map, replicate, IfOk, IfSome};
+ghost use Rattle.std.specs.Prelude.{◌≡◌, ◌≢◌, ◌*◌, ◌^◌, ◌<◌, ◌≤◌, length, map, IfOk, IfSome};
 ghost use Rattle.std.specs.List.{range_with_len};
-ghost use Rattle.slot_match.specs.Rows.{AreWithin, empty_row};
+ghost use Rattle.slot_match.specs.Rows.{AreWithin};
 ghost use Rattle.arrival_queues.specs.Queues.{AreQueues, HasPorts, empty_queues, head_of, held_count, length_with, queue_count, queue_for, queue_of, queues_with, queues_without_head, rows_of, sum_of_arrivals};
-ghost use Rattle.arrival_queues.specs.FieldSteps.{AsksFor, AsksNoMore, AsksToo, input_told, output_told, port_untold, queue_made};
+ghost use Rattle.unicast_slots.specs.RowSteps.{AsksToo};
+ghost use Rattle.arrival_queues.specs.FieldSteps.{AsksFor, input_told, output_told, port_untold, queue_made};
 
 use crate::cell::ArrivedCell;
 use crate::limits::MAX_CELLS;
 use crate::queue::ArrivalQueue;
 use crate::queueing::Queueing;
-use rotating_pick::{MAX_PORTS, with, without};
-use slot_match::Row;
+use rotating_pick::MAX_PORTS;
 use std::alloc::{AllocError, Global};
 use std::marker::Model;
+use unicast_slots::UnicastRows;
 
 /// The queues of a switch, and for each input the row of the outputs that it asks for: a cell asks where it is the first
 /// of its queue. A cell comes and leaves in constant time, and nothing but `make` takes memory.
@@ -21,7 +22,7 @@ pub struct ArrivalQueues {
     queueing: Queueing,
     depth: u32,
     queues: Vec<ArrivalQueue>,
-    rows: Vec<Row>,
+    rows: UnicastRows,
     // How many cells wait, and the sum of the slots in which they came.
     held: u32,
     arrivals: u64,
@@ -35,7 +36,7 @@ impl Model for ArrivalQueues {
 
     ghost view = { λ s. queues_kept s.ports s.queueing s.depth s.queues.items };
 
-    ghost invariant = { λ s. AreKept (queues_kept s.ports s.queueing s.depth s.queues.items) s.queues.items s.rows.items s.held s.arrivals };
+    ghost invariant = { λ s. AreKept (queues_kept s.ports s.queueing s.depth s.queues.items) s.queues.items s.rows s.held s.arrivals };
 }
 
 impl ArrivalQueues {
@@ -58,7 +59,7 @@ impl ArrivalQueues {
             queueing,
             depth,
             queues: queues_made(alloc, queueing, ports, depth)?,
-            rows: empty_rows(alloc, ports)?,
+            rows: UnicastRows::make(alloc, ports)?,
             held: 0,
             arrivals: 0,
         })
@@ -103,7 +104,7 @@ impl ArrivalQueues {
     {
         let place = place_of(self.queueing, self.ports, input, output);
         let cell = self.queues[place].leave()?;
-        ask_no_more(&mut self.rows, cell.input, cell.output);
+        self.rows.ask_no_more(cell.input, cell.output);
         ask_for(&mut self.rows, self.queues[place].head());
         self.held -= 1;
         self.arrivals -= u64::from(cell.arrival);
@@ -111,7 +112,7 @@ impl ArrivalQueues {
     }
 
     /// The row of each input, which names none but the ports.
-    pub fn rows(&self) -> &[Row]
+    pub fn rows(&self) -> &UnicastRows
         ensures value { result.now ≡ rows_of self.now }
         ensures within { AreWithin self.now.ports result.now }
     {
@@ -170,45 +171,25 @@ fn port_untold(queueing: Queueing, input: u32, output: u32) -> u32
 }
 
 // The input asks for the output, where the cell that came is the first of a queue that now has so many.
-fn ask_if_first(rows: &mut Vec<Row>, count: u32, input: u32, output: u32)
-    requires input { input < length rows.old.items }
+fn ask_if_first(rows: &mut UnicastRows, count: u32, input: u32, output: u32)
+    requires input { input < length rows.old }
     requires output { output < MAX_PORTS }
-    ensures first { count ≡ 1 → AsksToo rows.old.items rows.new.items input output }
-    ensures later { count ≢ 1 → rows.new.items ≡ rows.old.items }
+    ensures first { count ≡ 1 → AsksToo rows.old rows.new input output }
+    ensures later { count ≢ 1 → rows.new ≡ rows.old }
 {
     if count == 1 {
-        ask(rows, input, output);
+        rows.ask(input, output);
     }
 }
 
 // The cell asks, if there is one.
-fn ask_for(rows: &mut Vec<Row>, cell: Option<ArrivedCell>)
-    requires { IfSome cell (λ cell. (cell.input < length rows.old.items) × (cell.output < MAX_PORTS)) }
-    ensures { AsksFor rows.old.items rows.new.items cell }
+fn ask_for(rows: &mut UnicastRows, cell: Option<ArrivedCell>)
+    requires { IfSome cell (λ cell. (cell.input < length rows.old) × (cell.output < MAX_PORTS)) }
+    ensures { AsksFor rows.old rows.new cell }
 {
     if let Some(cell) = cell {
-        ask(rows, cell.input, cell.output);
+        rows.ask(cell.input, cell.output);
     }
-}
-
-// The input asks for the output.
-fn ask(rows: &mut Vec<Row>, input: u32, output: u32)
-    requires input { input < length rows.old.items }
-    requires output { output < MAX_PORTS }
-    ensures { AsksToo rows.old.items rows.new.items input output }
-{
-    let row = &mut rows[input as usize];
-    row.uni[0] = with(row.uni[0], output);
-}
-
-// The input asks for the output no more.
-fn ask_no_more(rows: &mut Vec<Row>, input: u32, output: u32)
-    requires input { input < length rows.old.items }
-    requires output { output < MAX_PORTS }
-    ensures { AsksNoMore rows.old.items rows.new.items input output }
-{
-    let row = &mut rows[input as usize];
-    row.uni[0] = without(row.uni[0], output);
 }
 
 // The input and the output that a queue tells of its cells; where it tells one alone, the other says nothing.
@@ -241,15 +222,4 @@ fn queues_made(
         queues.push(ArrivalQueue::make(alloc, queueing, input, output, depth)?)?;
     }
     Ok(queues)
-}
-
-// The row of each input that asks for no output.
-fn empty_rows(alloc: Global, ports: u32) -> Result<Vec<Row>, AllocError>
-    ensures { IfOk result (λ rows. rows.items ≡ replicate ports empty_row) }
-{
-    let mut rows = Vec::with_capacity(alloc, ports as usize)?;
-    for _ in 0..ports {
-        rows.push(Row::empty())?;
-    }
-    Ok(rows)
 }

@@ -159,7 +159,7 @@ fn held_text(alloc: Global, queues: &ArrivalQueues) -> Result<String, NoAnswer> 
 // The outputs for which each input asks, which all do at level 0.
 fn rows_text(alloc: Global, queues: &ArrivalQueues) -> Result<String, NoAnswer> {
     let mut text = String::new(alloc);
-    for row in queues.rows() {
+    for row in queues.rows().rows() {
         let outputs = row.outputs(0, Kind::Uni);
         if row.named() != outputs {
             return Err(NoAnswer);

@@ -13,17 +13,17 @@ ghost use Rattle.random_picks.specs.declared.picks.TheConstants.{PICKS_STREAM};
 ghost use Rattle.simulated_slots.specs.Slots.{decision_by, picks_by, served_queue};
 
 use crate::discipline::Discipline;
+use crate::slot_scheduler::SlotScheduler;
 use islip_rounds::RoundsUsed;
-use named_schedulers::NamedScheduler;
 use named_schedulers::laws::each_is_a_scheduler;
 use pointer_state::Pointers;
 use random_picks::RandomPicks;
 use rotating_pick::OutOfMemory;
-use scheduler_names::SchedulerName;
 use service_bound::WaitMeter;
-use slot_match::{Match, Row};
+use slot_match::Match;
 use std::alloc::Global;
 use std::marker::Model;
+use unicast_slots::UnicastRows;
 
 /// What decides the slots of a switch: a scheduler with its pointers, or random picks; and a meter of waits. An ideal switch
 /// uses none of them.
@@ -31,7 +31,7 @@ use std::marker::Model;
 pub struct Arbiter {
     discipline: Discipline,
     rounds: u32,
-    scheduler: NamedScheduler,
+    scheduler: SlotScheduler,
     pointers: Pointers,
     picks: RandomPicks,
     matched: Match,
@@ -85,7 +85,7 @@ impl Arbiter {
         Ok(Arbiter {
             discipline,
             rounds,
-            scheduler: NamedScheduler::new(discipline.scheduler()),
+            scheduler: SlotScheduler::new(discipline.scheduler()),
             pointers: Pointers::new(n),
             picks: RandomPicks::new(seed),
             matched: Match::new(n),
@@ -94,7 +94,7 @@ impl Arbiter {
     }
 
     /// Decides slot number `slot` by these rows. It takes no memory.
-    pub fn decide(&mut self, slot: u32, rows: &[Row]) -> RoundsUsed
+    pub fn decide(&mut self, slot: u32, rows: &UnicastRows) -> RoundsUsed
         requires rows { AreWithin self.old.places.ports rows.now }
         requires few { self.old.meter.count < MAX_NOTED }
         ensures kept { (self.new.discipline ≡ self.old.discipline) × (self.new.rounds ≡ self.old.rounds) × (self.new.places.ports ≡ self.old.places.ports) }
@@ -110,8 +110,10 @@ impl Arbiter {
         }
         let n = self.pointers.ports();
         if self.discipline.is_random() {
-            let used = self.picks.decide(n, self.rounds, rows, &mut self.matched);
-            self.meter.note(rows, &self.matched);
+            let used = self
+                .picks
+                .decide(n, self.rounds, rows.rows(), &mut self.matched);
+            self.meter.note(rows.rows(), &self.matched);
             return used;
         }
         // Tells the proof that the pointers stay those of as many ports.
@@ -125,7 +127,7 @@ impl Arbiter {
             &mut self.pointers,
             &mut self.matched,
         );
-        self.meter.note(rows, &self.matched);
+        self.meter.note(rows.rows(), &self.matched);
         used
     }
 

@@ -11,6 +11,7 @@ mod departed;
 mod discipline;
 mod job;
 mod limits;
+mod slot_scheduler;
 
 pub use arbiter::Arbiter;
 pub use arrivals::{Arrivals, take_in};

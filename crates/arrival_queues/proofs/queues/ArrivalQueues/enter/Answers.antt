@@ -9,10 +9,10 @@ returns-in_err-count-clause-queues c =
     let s = c.self.inside in
     let i_in : c.args.input < s.ports = subst (λ (all : Queues). c.args.input < all.ports) (sym c.self.view_is) c.requires.input in
     let j_in : c.args.output < s.ports = subst (λ (all : Queues). c.args.output < all.ports) (sym c.self.view_is) c.requires.output in
-    let inside = inside-kept s.ports s.queueing s.depth s.queues.items c.args.input c.args.output s.rows.items s.held s.arrivals c.self.invariant i_in j_in in
+    let inside = inside-kept s.ports s.queueing s.depth s.queues.items c.args.input c.args.output s.rows s.held s.arrivals c.self.invariant i_in j_in in
     let here = rw c.place_of-place.ensures.value at c.index_mut.ensures.value in
     rw (c.place_of-place.ensures.value, ← c.self.view_is)
-    (view-full s.ports s.queueing s.depth s.queues.items c.args.input c.args.output c.index_mut.result.now s.rows.items s.held s.arrivals c.self.invariant i_in j_in
+    (view-full s.ports s.queueing s.depth s.queues.items c.args.input c.args.output c.index_mut.result.now s.rows s.held s.arrivals c.self.invariant i_in j_in
     inside here c.args.slot c.port_untold-port.result c.port_untold-port.ensures c.ranges.slot.fits c.enter.new.self c.in_err-count.ensures.full.0
     c.in_err-count.ensures.full.1)
 
@@ -23,7 +23,7 @@ ask_if_first-requires-clause-input c =
       arith,
       c.requires.input,
       ap (λ (all : Queues). all.ports) c.self.view_is,
-      length-rows s.ports s.queueing s.depth s.queues.items s.rows.items s.held s.arrivals c.self.invariant,
+      length-rows s.ports s.queueing s.depth s.queues.items s.rows s.held s.arrivals c.self.invariant,
     )
 
 pub overflow_add-self : goal.overflow_add-self
@@ -38,21 +38,21 @@ invariant_of-self-2 c =
     let s = c.self.inside in
     let i_in : c.args.input < s.ports = subst (λ (all : Queues). c.args.input < all.ports) (sym c.self.view_is) c.requires.input in
     let j_in : c.args.output < s.ports = subst (λ (all : Queues). c.args.output < all.ports) (sym c.self.view_is) c.requires.output in
-    let inside = inside-kept s.ports s.queueing s.depth s.queues.items c.args.input c.args.output s.rows.items s.held s.arrivals c.self.invariant i_in j_in in
+    let inside = inside-kept s.ports s.queueing s.depth s.queues.items c.args.input c.args.output s.rows s.held s.arrivals c.self.invariant i_in j_in in
     let here = rw c.place_of-place.ensures.value at c.index_mut.ensures.value in
     rw (c.place_of-place.ensures.value, c.from.ensures)
-    (AreKept-entered s.ports s.queueing s.depth s.queues.items c.args.input c.args.output c.index_mut.result.now s.rows.items s.held s.arrivals c.self.invariant i_in j_in
+    (AreKept-entered s.ports s.queueing s.depth s.queues.items c.args.input c.args.output c.index_mut.result.now s.rows s.held s.arrivals c.self.invariant i_in j_in
     inside here c.args.slot c.port_untold-port.result c.port_untold-port.ensures c.ranges.slot.fits c.enter.new.self c.in_ok-count.count
-    c.ask_if_first.new.rows.items c.in_ok-count.ensures.entered c.ask_if_first.ensures.first c.ask_if_first.ensures.later)
+    c.ask_if_first.new.rows c.in_ok-count.ensures.entered c.ask_if_first.ensures.first c.ask_if_first.ensures.later)
 
 pub returns-clause-queues : goal.returns-clause-queues
 returns-clause-queues c =
     let s = c.self.inside in
     let i_in : c.args.input < s.ports = subst (λ (all : Queues). c.args.input < all.ports) (sym c.self.view_is) c.requires.input in
     let j_in : c.args.output < s.ports = subst (λ (all : Queues). c.args.output < all.ports) (sym c.self.view_is) c.requires.output in
-    let inside = inside-kept s.ports s.queueing s.depth s.queues.items c.args.input c.args.output s.rows.items s.held s.arrivals c.self.invariant i_in j_in in
+    let inside = inside-kept s.ports s.queueing s.depth s.queues.items c.args.input c.args.output s.rows s.held s.arrivals c.self.invariant i_in j_in in
     let here = rw c.place_of-place.ensures.value at c.index_mut.ensures.value in
     rw (c.place_of-place.ensures.value, ← c.self.view_is)
-    (view-entered s.ports s.queueing s.depth s.queues.items c.args.input c.args.output c.index_mut.result.now s.rows.items s.held s.arrivals c.self.invariant i_in j_in
+    (view-entered s.ports s.queueing s.depth s.queues.items c.args.input c.args.output c.index_mut.result.now s.rows s.held s.arrivals c.self.invariant i_in j_in
     inside here c.args.slot c.port_untold-port.result c.port_untold-port.ensures c.ranges.slot.fits c.enter.new.self c.in_ok-count.count
     c.in_ok-count.ensures.entered)

@@ -10,10 +10,10 @@ invariant_of-self c =
     let s = c.self.inside in
     let i_in : c.args.input < s.ports = subst (λ (all : Queues). c.args.input < all.ports) (sym c.self.view_is) c.requires.input in
     let j_in : c.args.output < s.ports = subst (λ (all : Queues). c.args.output < all.ports) (sym c.self.view_is) c.requires.output in
-    let inside = inside-kept s.ports s.queueing s.depth s.queues.items c.args.input c.args.output s.rows.items s.held s.arrivals c.self.invariant i_in j_in in
+    let inside = inside-kept s.ports s.queueing s.depth s.queues.items c.args.input c.args.output s.rows s.held s.arrivals c.self.invariant i_in j_in in
     let here = rw c.place_of-place.ensures.value at c.index_mut.ensures.value in
     rw c.place_of-place.ensures.value
-    (AreKept-none s.ports s.queueing s.depth s.queues.items c.args.input c.args.output c.index_mut.result.now s.rows.items s.held s.arrivals c.self.invariant i_in j_in
+    (AreKept-none s.ports s.queueing s.depth s.queues.items c.args.input c.args.output c.index_mut.result.now s.rows s.held s.arrivals c.self.invariant i_in j_in
     inside here c.leave.new.self c.leave.ensures.queue c.in_err-cell.ensures.value)
 
 pub returns-in_err-cell-clause-queues : goal.returns-in_err-cell-clause-queues
@@ -21,9 +21,9 @@ returns-in_err-cell-clause-queues c =
     let s = c.self.inside in
     let i_in : c.args.input < s.ports = subst (λ (all : Queues). c.args.input < all.ports) (sym c.self.view_is) c.requires.input in
     let j_in : c.args.output < s.ports = subst (λ (all : Queues). c.args.output < all.ports) (sym c.self.view_is) c.requires.output in
-    let inside = inside-kept s.ports s.queueing s.depth s.queues.items c.args.input c.args.output s.rows.items s.held s.arrivals c.self.invariant i_in j_in in
+    let inside = inside-kept s.ports s.queueing s.depth s.queues.items c.args.input c.args.output s.rows s.held s.arrivals c.self.invariant i_in j_in in
     let here = rw c.place_of-place.ensures.value at c.index_mut.ensures.value in
-    rw (c.place_of-place.ensures.value, ← c.self.view_is) (view-left s.ports s.queueing s.depth s.queues.items c.args.input c.args.output c.index_mut.result.now s.rows.items s.held s.arrivals c.self.invariant i_in j_in
+    rw (c.place_of-place.ensures.value, ← c.self.view_is) (view-left s.ports s.queueing s.depth s.queues.items c.args.input c.args.output c.index_mut.result.now s.rows s.held s.arrivals c.self.invariant i_in j_in
     inside here c.leave.new.self c.leave.ensures.queue)
 
 pub ask_no_more-requires-clause-input : goal.ask_no_more-requires-clause-input
@@ -31,20 +31,20 @@ ask_no_more-requires-clause-input c =
     let s = c.self.inside in
     let i_in : c.args.input < s.ports = subst (λ (all : Queues). c.args.input < all.ports) (sym c.self.view_is) c.requires.input in
     let j_in : c.args.output < s.ports = subst (λ (all : Queues). c.args.output < all.ports) (sym c.self.view_is) c.requires.output in
-    let inside = inside-kept s.ports s.queueing s.depth s.queues.items c.args.input c.args.output s.rows.items s.held s.arrivals c.self.invariant i_in j_in in
+    let inside = inside-kept s.ports s.queueing s.depth s.queues.items c.args.input c.args.output s.rows s.held s.arrivals c.self.invariant i_in j_in in
     let here = rw c.place_of-place.ensures.value at c.index_mut.ensures.value in
-    let own = gone-in s.ports s.queueing s.depth s.queues.items c.args.input c.args.output c.index_mut.result.now s.rows.items s.held s.arrivals c.self.invariant i_in j_in
+    let own = gone-in s.ports s.queueing s.depth s.queues.items c.args.input c.args.output c.index_mut.result.now s.rows s.held s.arrivals c.self.invariant i_in j_in
     inside here c.in_ok-cell.cell c.in_ok-cell.ensures.value in
-    omega (arith, own.input, length-rows s.ports s.queueing s.depth s.queues.items s.rows.items s.held s.arrivals c.self.invariant)
+    omega (arith, own.input, length-rows s.ports s.queueing s.depth s.queues.items s.rows s.held s.arrivals c.self.invariant)
 
 pub ask_no_more-requires-clause-output : goal.ask_no_more-requires-clause-output
 ask_no_more-requires-clause-output c =
     let s = c.self.inside in
     let i_in : c.args.input < s.ports = subst (λ (all : Queues). c.args.input < all.ports) (sym c.self.view_is) c.requires.input in
     let j_in : c.args.output < s.ports = subst (λ (all : Queues). c.args.output < all.ports) (sym c.self.view_is) c.requires.output in
-    let inside = inside-kept s.ports s.queueing s.depth s.queues.items c.args.input c.args.output s.rows.items s.held s.arrivals c.self.invariant i_in j_in in
+    let inside = inside-kept s.ports s.queueing s.depth s.queues.items c.args.input c.args.output s.rows s.held s.arrivals c.self.invariant i_in j_in in
     let here = rw c.place_of-place.ensures.value at c.index_mut.ensures.value in
-    let own = gone-in s.ports s.queueing s.depth s.queues.items c.args.input c.args.output c.index_mut.result.now s.rows.items s.held s.arrivals c.self.invariant i_in j_in
+    let own = gone-in s.ports s.queueing s.depth s.queues.items c.args.input c.args.output c.index_mut.result.now s.rows s.held s.arrivals c.self.invariant i_in j_in
     inside here c.in_ok-cell.cell c.in_ok-cell.ensures.value in
     omega (arith, own.output, c.self.invariant.whole.size)
 
@@ -53,13 +53,13 @@ ask_for-requires c =
     let s = c.self.inside in
     let i_in : c.args.input < s.ports = subst (λ (all : Queues). c.args.input < all.ports) (sym c.self.view_is) c.requires.input in
     let j_in : c.args.output < s.ports = subst (λ (all : Queues). c.args.output < all.ports) (sym c.self.view_is) c.requires.output in
-    let inside = inside-kept s.ports s.queueing s.depth s.queues.items c.args.input c.args.output s.rows.items s.held s.arrivals c.self.invariant i_in j_in in
+    let inside = inside-kept s.ports s.queueing s.depth s.queues.items c.args.input c.args.output s.rows s.held s.arrivals c.self.invariant i_in j_in in
     let here = rw c.place_of-place.ensures.value at c.index_mut.ensures.value in
     let found : c.index.result.now ≡ c.leave.new.self = c.index.ensures ∙ get_or-set_same s.queues.items c.place_of-place.result c.leave.new.self _ (rw c.place_of-place.ensures.value inside) in
     let second = c.head.ensures ∙ ap (λ (queue : QueueValue). slice_get queue.cells 0) found in
-    may_ask s.ports s.rows.items c.ask_no_more.new.rows.items c.in_ok-cell.cell.input c.in_ok-cell.cell.output c.head.result
-    (length-rows s.ports s.queueing s.depth s.queues.items s.rows.items s.held s.arrivals c.self.invariant) c.self.invariant.whole.size c.ask_no_more.ensures
-    (next-below s.ports s.queueing s.depth s.queues.items c.args.input c.args.output c.index_mut.result.now s.rows.items s.held s.arrivals c.self.invariant i_in j_in
+    may_ask s.ports s.rows c.ask_no_more.new.self c.in_ok-cell.cell.input c.in_ok-cell.cell.output c.head.result
+    (length-rows s.ports s.queueing s.depth s.queues.items s.rows s.held s.arrivals c.self.invariant) c.self.invariant.whole.size c.ask_no_more.ensures
+    (next-below s.ports s.queueing s.depth s.queues.items c.args.input c.args.output c.index_mut.result.now s.rows s.held s.arrivals c.self.invariant i_in j_in
     inside here c.in_ok-cell.cell c.in_ok-cell.ensures.value c.leave.new.self c.head.result c.leave.ensures.queue second)
 
 pub overflow_sub-self : goal.overflow_sub-self
@@ -67,11 +67,11 @@ overflow_sub-self c =
     let s = c.self.inside in
     let i_in : c.args.input < s.ports = subst (λ (all : Queues). c.args.input < all.ports) (sym c.self.view_is) c.requires.input in
     let j_in : c.args.output < s.ports = subst (λ (all : Queues). c.args.output < all.ports) (sym c.self.view_is) c.requires.output in
-    let inside = inside-kept s.ports s.queueing s.depth s.queues.items c.args.input c.args.output s.rows.items s.held s.arrivals c.self.invariant i_in j_in in
+    let inside = inside-kept s.ports s.queueing s.depth s.queues.items c.args.input c.args.output s.rows s.held s.arrivals c.self.invariant i_in j_in in
     let here = rw c.place_of-place.ensures.value at c.index_mut.ensures.value in
     omega (
       arith,
-      held-some s.ports s.queueing s.depth s.queues.items c.args.input c.args.output c.index_mut.result.now s.rows.items s.held s.arrivals c.self.invariant i_in j_in
+      held-some s.ports s.queueing s.depth s.queues.items c.args.input c.args.output c.index_mut.result.now s.rows s.held s.arrivals c.self.invariant i_in j_in
           inside here c.in_ok-cell.cell c.in_ok-cell.ensures.value,
     )
 
@@ -80,12 +80,12 @@ overflow_sub-self-2 c =
     let s = c.self.inside in
     let i_in : c.args.input < s.ports = subst (λ (all : Queues). c.args.input < all.ports) (sym c.self.view_is) c.requires.input in
     let j_in : c.args.output < s.ports = subst (λ (all : Queues). c.args.output < all.ports) (sym c.self.view_is) c.requires.output in
-    let inside = inside-kept s.ports s.queueing s.depth s.queues.items c.args.input c.args.output s.rows.items s.held s.arrivals c.self.invariant i_in j_in in
+    let inside = inside-kept s.ports s.queueing s.depth s.queues.items c.args.input c.args.output s.rows s.held s.arrivals c.self.invariant i_in j_in in
     let here = rw c.place_of-place.ensures.value at c.index_mut.ensures.value in
     omega (
       arith,
       c.from.ensures,
-      arrivals-some s.ports s.queueing s.depth s.queues.items c.args.input c.args.output c.index_mut.result.now s.rows.items s.held s.arrivals c.self.invariant i_in j_in
+      arrivals-some s.ports s.queueing s.depth s.queues.items c.args.input c.args.output c.index_mut.result.now s.rows s.held s.arrivals c.self.invariant i_in j_in
           inside here c.in_ok-cell.cell c.in_ok-cell.ensures.value,
     )
 
@@ -94,9 +94,9 @@ returns-clause-queues c =
     let s = c.self.inside in
     let i_in : c.args.input < s.ports = subst (λ (all : Queues). c.args.input < all.ports) (sym c.self.view_is) c.requires.input in
     let j_in : c.args.output < s.ports = subst (λ (all : Queues). c.args.output < all.ports) (sym c.self.view_is) c.requires.output in
-    let inside = inside-kept s.ports s.queueing s.depth s.queues.items c.args.input c.args.output s.rows.items s.held s.arrivals c.self.invariant i_in j_in in
+    let inside = inside-kept s.ports s.queueing s.depth s.queues.items c.args.input c.args.output s.rows s.held s.arrivals c.self.invariant i_in j_in in
     let here = rw c.place_of-place.ensures.value at c.index_mut.ensures.value in
-    rw (c.place_of-place.ensures.value, ← c.self.view_is) (view-left s.ports s.queueing s.depth s.queues.items c.args.input c.args.output c.index_mut.result.now s.rows.items s.held s.arrivals c.self.invariant i_in j_in
+    rw (c.place_of-place.ensures.value, ← c.self.view_is) (view-left s.ports s.queueing s.depth s.queues.items c.args.input c.args.output c.index_mut.result.now s.rows s.held s.arrivals c.self.invariant i_in j_in
     inside here c.leave.new.self c.leave.ensures.queue)
 
 pub returns-clause-ports : goal.returns-clause-ports
@@ -104,9 +104,9 @@ returns-clause-ports c =
     let s = c.self.inside in
     let i_in : c.args.input < s.ports = subst (λ (all : Queues). c.args.input < all.ports) (sym c.self.view_is) c.requires.input in
     let j_in : c.args.output < s.ports = subst (λ (all : Queues). c.args.output < all.ports) (sym c.self.view_is) c.requires.output in
-    let inside = inside-kept s.ports s.queueing s.depth s.queues.items c.args.input c.args.output s.rows.items s.held s.arrivals c.self.invariant i_in j_in in
+    let inside = inside-kept s.ports s.queueing s.depth s.queues.items c.args.input c.args.output s.rows s.held s.arrivals c.self.invariant i_in j_in in
     let here = rw c.place_of-place.ensures.value at c.index_mut.ensures.value in
-    rw (← c.self.view_is) (gone-ports s.ports s.queueing s.depth s.queues.items c.args.input c.args.output c.index_mut.result.now s.rows.items s.held s.arrivals c.self.invariant i_in j_in
+    rw (← c.self.view_is) (gone-ports s.ports s.queueing s.depth s.queues.items c.args.input c.args.output c.index_mut.result.now s.rows s.held s.arrivals c.self.invariant i_in j_in
     inside here c.in_ok-cell.cell c.in_ok-cell.ensures.value)
 
 pub returns-clause-within : goal.returns-clause-within
@@ -114,9 +114,9 @@ returns-clause-within c =
     let s = c.self.inside in
     let i_in : c.args.input < s.ports = subst (λ (all : Queues). c.args.input < all.ports) (sym c.self.view_is) c.requires.input in
     let j_in : c.args.output < s.ports = subst (λ (all : Queues). c.args.output < all.ports) (sym c.self.view_is) c.requires.output in
-    let inside = inside-kept s.ports s.queueing s.depth s.queues.items c.args.input c.args.output s.rows.items s.held s.arrivals c.self.invariant i_in j_in in
+    let inside = inside-kept s.ports s.queueing s.depth s.queues.items c.args.input c.args.output s.rows s.held s.arrivals c.self.invariant i_in j_in in
     let here = rw c.place_of-place.ensures.value at c.index_mut.ensures.value in
-    let own = gone-in s.ports s.queueing s.depth s.queues.items c.args.input c.args.output c.index_mut.result.now s.rows.items s.held s.arrivals c.self.invariant i_in j_in
+    let own = gone-in s.ports s.queueing s.depth s.queues.items c.args.input c.args.output c.index_mut.result.now s.rows s.held s.arrivals c.self.invariant i_in j_in
     inside here c.in_ok-cell.cell c.in_ok-cell.ensures.value in
     rw (← c.self.view_is) (own.input, own.output)
 
@@ -125,11 +125,11 @@ invariant_of-self-2 c =
     let s = c.self.inside in
     let i_in : c.args.input < s.ports = subst (λ (all : Queues). c.args.input < all.ports) (sym c.self.view_is) c.requires.input in
     let j_in : c.args.output < s.ports = subst (λ (all : Queues). c.args.output < all.ports) (sym c.self.view_is) c.requires.output in
-    let inside = inside-kept s.ports s.queueing s.depth s.queues.items c.args.input c.args.output s.rows.items s.held s.arrivals c.self.invariant i_in j_in in
+    let inside = inside-kept s.ports s.queueing s.depth s.queues.items c.args.input c.args.output s.rows s.held s.arrivals c.self.invariant i_in j_in in
     let here = rw c.place_of-place.ensures.value at c.index_mut.ensures.value in
     let found : c.index.result.now ≡ c.leave.new.self = c.index.ensures ∙ get_or-set_same s.queues.items c.place_of-place.result c.leave.new.self _ (rw c.place_of-place.ensures.value inside) in
     let second = c.head.ensures ∙ ap (λ (queue : QueueValue). slice_get queue.cells 0) found in
     rw (c.place_of-place.ensures.value, c.from.ensures)
-    (AreKept-left s.ports s.queueing s.depth s.queues.items c.args.input c.args.output c.index_mut.result.now s.rows.items s.held s.arrivals c.self.invariant i_in j_in
-    inside here c.in_ok-cell.cell c.in_ok-cell.ensures.value c.leave.new.self c.head.result c.ask_no_more.new.rows.items
-    c.ask_for.new.rows.items c.leave.ensures.queue second c.ask_no_more.ensures c.ask_for.ensures)
+    (AreKept-left s.ports s.queueing s.depth s.queues.items c.args.input c.args.output c.index_mut.result.now s.rows s.held s.arrivals c.self.invariant i_in j_in
+    inside here c.in_ok-cell.cell c.in_ok-cell.ensures.value c.leave.new.self c.head.result c.ask_no_more.new.self
+    c.ask_for.new.rows c.leave.ensures.queue second c.ask_no_more.ensures c.ask_for.ensures)

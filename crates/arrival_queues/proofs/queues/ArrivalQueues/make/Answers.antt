@@ -3,7 +3,7 @@ use Rattle.arrival_queues.proofs.queues.ArrivalQueues.make.Goals as goal
 
 pub invariant_of-result : goal.invariant_of-result
 invariant_of-result c =
-    rw (c.in_ok-queues_made.ensures, c.in_ok-empty_rows.ensures)
+    rw (c.in_ok-queues_made.ensures, c.in_ok-make.ensures)
     (AreKept-made c.args.queueing c.args.ports c.args.depth c.requires.some c.requires.size c.requires.room)
 
 pub returns : goal.returns
