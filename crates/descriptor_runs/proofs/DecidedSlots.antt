@@ -1,11 +1,9 @@
--- What a switch has before a slot, when the packets of the slot have come in, is the run's, and so is what it decides of it.
-use Rattle.std.proofs.Common.{◌≡◌, ◌∙◌, ℕ, ◌+◌, true, false, List, [], ◌∷◌, ◌++◌, map, length, Option, sym, ap, subst, arith}
+-- What a switch decides of a slot, when the packets of the slot have come in, is what the run decides of it.
+use Rattle.std.proofs.Common.{◌≡◌, ◌∙◌, ℕ, ◌+◌, true, List, [], ◌∷◌, ◌++◌, map, Option, sym, ap, subst, arith}
 use Rattle.std.specs.List.{range_with_len}
-use Rattle.std.specs.Vec.{with_items}
 use Rattle.std.proofs.lemmas.List.{map_push}
 use Rattle.std.proofs.lemmas.List.FromFn.{map-range_with_len_more}
 use Rattle.std.proofs.lemmas.Simd.{map-map}
-use Rattle.std_lemmas.proofs.Lists.{whole_back}
 use Rattle.slot_match.specs.declared.rows.Row.{Row}
 use Rattle.slot_match.specs.declared.matching.Fed.{Fed}
 use Rattle.slot_match.specs.Rows.{AreWithin}
@@ -21,37 +19,24 @@ use Rattle.service_bound.specs.Waits.{NotedSlot, noted_of}
 use Rattle.service_bound.specs.MeterSteps.{Meter, HasNoted}
 use Rattle.slot_board.specs.Schedules.{decided_under}
 use Rattle.switch_plan.specs.GoodPlans.{SwitchPlan, IsGood}
-use Rattle.run_laws.specs.Runs.{ports_of, setup_for, rows_in, before_under, posts_under}
+use Rattle.run_laws.specs.Runs.{ports_of, setup_for, posts_under}
 use Rattle.run_laws.specs.Sums.{schedule_under}
 use Rattle.run_laws.proofs.Base.{within}
 use Rattle.descriptor_runs.specs.declared.switch.Switch.{Switch}
 use Rattle.descriptor_runs.specs.InputSteps.{InputValue, row_in}
 use Rattle.descriptor_runs.specs.SwitchSteps.{AreInputs, IsBefore}
+use Rattle.descriptor_runs.proofs.Letting.{all-rows}
 
--- the inputs were given so, and they and the rows are these when the packets have come in
+-- the inputs are these when the packets have come in, and these their rows
 module _ (scheduler : Scheduler) (scheduling : IsScheduler scheduler) (plan : SwitchPlan) (good : IsGood plan) (t : ℕ) (switch : Switch)
-    (is : IsBefore scheduler plan t switch) (given : List InputValue) (same : given ≡ switch.inputs.items)
-    (inputs : List InputValue) (rows : List Row) (long : length inputs ≡ length given)
-    (took : AreInputs scheduler plan t false given → switch.columns ≡ map row_in given
-    → AreInputs scheduler plan t true inputs × (rows ≡ map row_in inputs) × (rows ≡ rows_in plan (before_under scheduler plan t) t)) where
-  taken : AreInputs scheduler plan t true inputs × (rows ≡ map row_in inputs) × (rows ≡ rows_in plan (before_under scheduler plan t) t)
-  taken = took (subst (AreInputs scheduler plan t false) (sym same) is.inputs) (is.rows ∙ ap (map row_in) (sym same))
-
-  inputs-back : (with_items switch.inputs inputs).items ≡ inputs
-  inputs-back = whole_back switch.inputs.len inputs switch.inputs.items switch.inputs.ok.0 (long ∙ ap length same)
-
-  pub inputs-are : AreInputs scheduler plan t true (with_items switch.inputs inputs).items
-  inputs-are = subst (AreInputs scheduler plan t true) (sym inputs-back) taken.0
-
-  pub rows-of : rows ≡ map row_in (with_items switch.inputs inputs).items
-  rows-of = taken.1 ∙ ap (map row_in) (sym inputs-back)
-
-  pub all-rows : rows ≡ rows_in plan (before_under scheduler plan t) t
-  all-rows = taken.2
-
+    (is : IsBefore scheduler plan t switch) (inputs : List InputValue) (are : AreInputs scheduler plan t true inputs)
+    (rows : List Row) (rows_are : rows ≡ map row_in inputs) where
   -- ---- what is decided of them
   rows-posted : rows ≡ slot_rows (ports_of plan) (posts_under scheduler plan) t
-  rows-posted = taken.2 ∙ sym (map-map (λ (post : Post). post.row) (λ i. posts_under scheduler plan i t) (range_with_len 0 (ports_of plan)))
+  rows-posted =
+      rows_are
+      ∙ (all-rows scheduler plan t inputs are
+      ∙ sym (map-map (λ (post : Post). post.row) (λ i. posts_under scheduler plan i t) (range_with_len 0 (ports_of plan))))
 
   pub rows-within : (n : ℕ) → n ≡ ports_of plan → AreWithin n rows
   rows-within n ports =

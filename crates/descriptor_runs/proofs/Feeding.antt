@@ -1,13 +1,14 @@
 -- What a slot brings to the outputs: each takes the cell of the input that feeds it.
-use Rattle.std.proofs.Common.{◌≡◌, ◌∙◌, ℕ, ◌+◌, ◌^◌, ◌<◌, ◌≤◌, Bool, List, ◌++◌, map, length, set, Option, None, Some, sym, ap, subst, arith, inl, inr}
+use Rattle.std.proofs.Common.{◌≡◌, ◌≢◌, ◌∙◌, ℕ, ◌+◌, ◌^◌, ◌<◌, ◌≤◌, ◌↔◌, Bool, List, ◌++◌, map, length, set, Option, None, Some, refl, sym, ap, subst}
+use Rattle.std.proofs.Common.{arith, inl, inr}
 use Rattle.std.specs.Prelude.{slice_get, slice_index_or}
-use Rattle.std.proofs.lemmas.Bool.{cases_eq}
 use Rattle.std.proofs.lemmas.List.{get_or-map, length-append, length-map, length-set}
-use Rattle.std.proofs.lemmas.Option.{slice_get_within, slice_get-get_or}
+use Rattle.std.proofs.lemmas.Option.{none-some, slice_get_within, slice_get-get_or}
 use Rattle.std_lemmas.proofs.Lists.{got_set}
+use Rattle.rotating_pick.specs.PortSets.{Has}
 use Rattle.cell_cutter.specs.declared.cell.CellName.{CellName}
 use Rattle.slot_match.specs.declared.matching.Fed.{Fed}
-use Rattle.slot_match.specs.Matches.{fed_of}
+use Rattle.slot_match.specs.Matches.{IsFreeOutput, fed_of}
 use Rattle.pcap_records.specs.Output.{capture_text}
 use Rattle.eslip_rounds.specs.Schedulers.{Scheduler, IsScheduler}
 use Rattle.card_core.specs.Plans.{Plan as CardPlan, IsGoodPlan}
@@ -21,11 +22,15 @@ use Rattle.descriptor_runs.specs.InputSteps.{InputValue}
 use Rattle.descriptor_runs.specs.OutputSteps.{OutputValue, HasCome, HasTaken, messages_with}
 use Rattle.descriptor_runs.specs.SwitchSteps.{AreGranted, AreOutputs}
 
--- The first outputs, so many, have what slot t brings to them, and the others what came before.
-pub record AreFed (scheduler : Scheduler) (plan : SwitchPlan) (t k : ℕ) (outputs : List OutputValue) : Type 0 where
+-- The outputs have what slot t brings to them, but for those of the set, which have what came before.
+pub record AreFed (scheduler : Scheduler) (plan : SwitchPlan) (t left : ℕ) (outputs : List OutputValue) : Type 0 where
   pub count : length outputs ≡ ports_of plan
-  pub fed : (j : ℕ) (output : OutputValue) → j < k → slice_get outputs j ≡ Some output → HasCome scheduler plan (t + 2) j output
-  pub rest : (j : ℕ) (output : OutputValue) → k ≤ j → slice_get outputs j ≡ Some output → HasCome scheduler plan (t + 1) j output
+  pub fed : (j : ℕ) (output : OutputValue) → (Has left j → ⊥) → slice_get outputs j ≡ Some output → HasCome scheduler plan (t + 2) j output
+  pub rest : (j : ℕ) (output : OutputValue) → Has left j → slice_get outputs j ≡ Some output → HasCome scheduler plan (t + 1) j output
+
+-- the outputs of the set are those that the match feeds
+abbrev pub AreFeeding : List (Option Fed) → ℕ → Type 0
+AreFeeding matched fed = (j : ℕ) → Has fed j ↔ ((j < length matched) × (IsFreeOutput matched j → ⊥))
 
 -- These are the inputs of the plan's ports, the names of the cells that they are granted in slot t, its match, and the unit of
 -- captures.
@@ -98,44 +103,22 @@ module _ (scheduler : Scheduler) (plan : SwitchPlan) (t : ℕ) where
       }
 
   -- ---- all outputs
-  pub fed_none : (outputs : List OutputValue) → AreOutputs scheduler plan (t + 1) outputs → AreFed scheduler plan t 0 outputs
-  fed_none outputs are = record {
-    count = are.count;
-    fed = λ j output below. absurd (omega arith);
-    rest = λ j output from. are.come j output;
-  }
+  pub fed_all : (outputs : List OutputValue) (left : ℕ) → AreFed scheduler plan t left outputs → ((j : ℕ) → Has left j → ⊥)
+      → AreOutputs scheduler plan (t + 2) outputs
+  fed_all outputs left are none = record { count = are.count; come = λ j output at. are.fed j output (none j) at }
 
-  pub fed_all : (outputs : List OutputValue) (k : ℕ) → AreFed scheduler plan t k outputs → length outputs ≤ k → AreOutputs scheduler plan (t + 2) outputs
-  fed_all outputs k are all = record {
-    count = are.count;
-    come = λ j output at. are.fed j output (let inside = slice_get_within outputs j output at in omega arith) at;
-  }
-
-  fed_same : (outputs : List OutputValue) (k : ℕ) → AreFed scheduler plan t k outputs
-      → ((output : OutputValue) → HasCome scheduler plan (t + 1) k output → HasCome scheduler plan (t + 2) k output) → AreFed scheduler plan t (k + 1) outputs
-  fed_same outputs k are here = record {
-    count = are.count;
-    fed = λ j output below at. elim (cases_eq j k) [
-      | inl same ↦
-          subst (λ i. HasCome scheduler plan (t + 2) i output) (sym same)
-          (here output (are.rest k output (omega arith) (ap (slice_get outputs) (sym same) ∙ at)))
-      | inr other ↦ are.fed j output (omega arith) at
-    ];
-    rest = λ j output from. are.rest j output (omega arith);
-  }
-
-  fed_set : (outputs : List OutputValue) (k : ℕ) (new : OutputValue) → AreFed scheduler plan t k outputs → HasCome scheduler plan (t + 2) k new
-      → AreFed scheduler plan t (k + 1) (set outputs k new)
-  fed_set outputs k new are here = record {
+  fed_set : (outputs : List OutputValue) (left less k : ℕ) (new : OutputValue) → AreFed scheduler plan t left outputs
+      → ((y : ℕ) → Has less y ↔ ((y ≢ k) × Has left y)) → HasCome scheduler plan (t + 2) k new → AreFed scheduler plan t less (set outputs k new)
+  fed_set outputs left less k new are fewer here = record {
     count = length-set outputs k new ∙ are.count;
-    fed = λ j output below at. elim (got_set outputs k j new output at) [
+    fed = λ j output lacks at. elim (got_set outputs k j new output at) [
       | inl (same, is) ↦
           subst (λ i. HasCome scheduler plan (t + 2) i output) (sym same) (subst (HasCome scheduler plan (t + 2) k) (sym is) here)
-      | inr (other, there) ↦ are.fed j output (omega arith) there
+      | inr (other, there) ↦ are.fed j output (λ has. lacks ((fewer j).1 (other, has))) there
     ];
-    rest = λ j output from at. elim (got_set outputs k j new output at) [
-      | inl (same, is) ↦ absurd (omega arith)
-      | inr (other, there) ↦ are.rest j output (omega arith) there
+    rest = λ j output has at. elim (got_set outputs k j new output at) [
+      | inl (same, is) ↦ absurd (((fewer j).0 has).0 same)
+      | inr (other, there) ↦ are.rest j output ((fewer j).0 has).1 there
     ];
   }
 
@@ -190,22 +173,40 @@ module _ (scheduler : Scheduler) (plan : SwitchPlan) (t : ℕ) where
           (slice_get_within (card_at plan fed.input).packets name.packet (packet_named plan fed.input name) adds.there)
 
       -- ---- what the slot makes of the output
-      pub fed_free : (outputs : List OutputValue) → AreFed scheduler plan t j outputs → fed_of matched j ≡ None → AreFed scheduler plan t (j + 1) outputs
-      fed_free outputs are free = fed_same outputs j are (λ output. come_nothing j output (feeds None free))
+      come_free : (output : OutputValue) → fed_of matched j ≡ None → HasCome scheduler plan (t + 1) j output → HasCome scheduler plan (t + 2) j output
+      come_free output free = come_nothing j output (feeds None free)
 
-      pub fed_more : (outputs : List OutputValue) (before after : OutputValue) (fed : Fed) (name : CellName) (input : InputValue)
-          → AreFed scheduler plan t j outputs → HasCome scheduler plan (t + 1) j before → fed_of matched j ≡ Some fed
-          → slice_index_or names fed.input None ≡ Some name → input ≡ slice_index_or inputs fed.input input
-          → HasTaken nano (messages_with input.plan name) before after → AreFed scheduler plan t (j + 1) (set outputs j after)
-      fed_more outputs before after fed name input are come at named own taken =
+      pub fed_more : (outputs : List OutputValue) (left less : ℕ) (before after : OutputValue) (fed : Fed) (name : CellName) (input : InputValue)
+          → AreFed scheduler plan t left outputs → ((y : ℕ) → Has less y ↔ ((y ≢ j) × Has left y)) → HasCome scheduler plan (t + 1) j before
+          → fed_of matched j ≡ Some fed → slice_index_or names fed.input None ≡ Some name → input ≡ slice_index_or inputs fed.input input
+          → HasTaken nano (messages_with input.plan name) before after → AreFed scheduler plan t less (set outputs j after)
+      fed_more outputs left less before after fed name input are fewer come at named own taken =
           let adds = adds_named fed name at named in
-          fed_set outputs j after are
+          fed_set outputs left less j after are fewer
           (come_cell j fed.input name input.plan nano before after (card-is fed.input input own adds.input) is.nano_is adds taken come)
 
+    -- before any output takes what the slot brings, those that are not fed have it
+    module _ (law : Law) (given : List OutputValue) (are-given : AreOutputs scheduler plan (t + 1) given) (fed : ℕ) (feeding : AreFeeding matched fed) where
+      free-output : (j : ℕ) → j < length matched → (Has fed j → ⊥) → (feed : Option Fed) → fed_of matched j ≡ feed → fed_of matched j ≡ None
+      free-output j inside lacks None at = at
+      free-output j inside lacks (Some f) at = absurd (lacks ((feeding j).1 (inside, λ free. none-some f (sym free ∙ at))))
+
+      pub fed_first : AreFed scheduler plan t fed given
+      fed_first = record {
+        count = are-given.count;
+        fed = λ j output lacks at.
+            let below = slice_get_within given j output at in
+            let count = are-given.count in
+            let long = match-long in
+            let free = free-output j (omega arith) lacks (fed_of matched j) refl in
+            come_free law given are-given j below output free (are-given.come j output at);
+        rest = λ j output has at. are-given.come j output at;
+      }
+
   -- ---- an output that is next
-  pub come_before : (outputs : List OutputValue) (k : ℕ) (d : OutputValue) → AreFed scheduler plan t k outputs → k < length outputs
+  pub come_before : (outputs : List OutputValue) (left k : ℕ) (d : OutputValue) → AreFed scheduler plan t left outputs → Has left k → k < length outputs
       → HasCome scheduler plan (t + 1) k (slice_index_or outputs k d)
-  come_before outputs k d are inside = are.rest k (slice_index_or outputs k d) (omega arith) (slice_get-get_or outputs k d inside)
+  come_before outputs left k d are has inside = are.rest k (slice_index_or outputs k d) has (slice_get-get_or outputs k d inside)
 
   -- its numbers are of 32 bits
   pub few_cells : (j : ℕ) (output : OutputValue) → HasCome scheduler plan (t + 1) j output → t < plan.max_slots → plan.max_slots < 2 ^ 32

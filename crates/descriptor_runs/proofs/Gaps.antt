@@ -23,32 +23,18 @@ use Rattle.run_laws.proofs.Base.{places-same, served-length}
 use Rattle.idle_slots.specs.Idle.{NoneArrive, AreIdle}
 use Rattle.idle_slots.specs.Skipped.{AreAsAfter, IsGap}
 use Rattle.descriptor_runs.specs.declared.switch.Switch.{Switch}
-use Rattle.descriptor_runs.specs.InputSteps.{InputValue, next_slot}
+use Rattle.descriptor_runs.specs.InputSteps.{InputValue}
 use Rattle.descriptor_runs.specs.OutputSteps.{OutputValue, HasCome}
-use Rattle.descriptor_runs.specs.RunningSteps.{NoneBefore, ComesTo}
+use Rattle.descriptor_runs.specs.PortSteps.{NoneBefore, ComesTo}
 use Rattle.descriptor_runs.specs.SwitchSteps.{AreInputs, AreNames, IsNameOf, IsBefore}
 use Rattle.descriptor_runs.proofs.InputPorts.{count-inputs, plan-of, in-ports}
+use Rattle.descriptor_runs.proofs.Arriving.{next-late}
 use Rattle.descriptor_runs.proofs.Endings.{going-to}
 use Rattle.descriptor_runs.proofs.GapSlots.{gap, length-gap, gap-waits, gap-more, none-crosses}
 use Rattle.descriptor_runs.proofs.GapInputs.{gap-inputs}
 
 -- ---- the next arrival
 module _ (scheduler : Scheduler) (plan : SwitchPlan) (slot : ℕ) (inputs : List InputValue) (are : AreInputs scheduler plan slot false inputs) where
-  -- an input's next packet arrives in this slot or later
-  pub next-late : (i s : ℕ) (input : InputValue) → slice_get inputs i ≡ Some input → next_slot input ≡ Some s → slot ≤ s
-  next-late i s input at next =
-      let sent = are.served i input at in
-      let long = served-length scheduler plan i slot in
-      late (slice_get input.plan.packets input.next) refl next where
-        late : (packet : Option Planned) → slice_get input.plan.packets input.next ≡ packet → option_map (λ (p : Planned). p.arrival) packet ≡ Some s
-            → slot ≤ s
-        late None there is = absurd (none-some s is)
-        late (Some packet) there is =
-            let same = same_Some packet.arrival s is in
-            let after = (are.served i input at).next.after input.next packet there (omega arith) in
-            let long = served-length scheduler plan i slot in
-            omega arith
-
   -- so none arrives in a slot before the first of these
   module _ (first : ℕ) (least : NoneBefore (length inputs) inputs (Some first)) where
     apart : (i : ℕ) (input : InputValue) → slice_get inputs i ≡ Some input
@@ -83,19 +69,19 @@ module _ (scheduler : Scheduler) (plan : SwitchPlan) (slot : ℕ) (inputs : List
         | inr past ↦ let beyond = past.0 in absurd (omega arith)
       ]
 
-  pub not-earlier : (first : Option ℕ) → ComesTo inputs first → slot ≤ unwrap_or first slot
+  pub not-earlier : (first : Option ℕ) → ComesTo (length inputs) inputs first → slot ≤ unwrap_or first slot
   not-earlier None there = omega arith
-  not-earlier (Some first) (i, input, at, next) = next-late i first input at next
+  not-earlier (Some first) (i, input, below, at, next) = next-late scheduler plan slot inputs are i first input at next
 
   -- and the run does not end before it
-  pub goes-to : (first : Option ℕ) → ComesTo inputs first
+  pub goes-to : (first : Option ℕ) → ComesTo (length inputs) inputs first
       → ((i k s : ℕ) (packet : Planned) → i < ports_of plan → slice_get (card_at plan i).packets k ≡ Some packet → s < packet.arrival
       → is_done_at (ports_of plan) (posts_under scheduler plan) s ≡ false)
       → is_done_before (ports_of plan) (posts_under scheduler plan) slot ≡ false
       → is_done_before (ports_of plan) (posts_under scheduler plan) (unwrap_or first slot) ≡ false
   goes-to None there law going = going
-  goes-to (Some first) (i, input, at, next) law going =
-      let late = next-late i first input at next in
+  goes-to (Some first) (i, input, below, at, next) law going =
+      let late = next-late scheduler plan slot inputs are i first input at next in
       let here : slot + (first - slot) ≡ first = omega arith in
       subst (λ u. is_done_before (ports_of plan) (posts_under scheduler plan) u ≡ false) here
       (going-to (ports_of plan) (posts_under scheduler plan) slot (first - slot) going
@@ -190,8 +176,7 @@ module _ (scheduler : Scheduler) (plan : SwitchPlan) (slot next : ℕ) (skipped 
               (noted (map noted_of (schedule_under scheduler plan slot)) (gap scheduler plan t next skipped.idle slot) was.noted
               (length-gap scheduler plan t next skipped.idle slot) (gap-waits scheduler plan t next skipped.idle slot (omega arith)));
         };
-        inputs = gap-inputs scheduler plan slot next skipped switch.inputs.items is.inputs;
-        rows = is.rows;
+        inputs = gap-inputs scheduler plan slot next skipped switch.inputs is.inputs;
         names = names;
         outputs = record {
           count = is.outputs.count;

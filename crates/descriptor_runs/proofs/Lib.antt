@@ -1,7 +1,9 @@
 pub mod ServedInputs
 pub mod InputPorts
+pub mod Arriving
 pub mod Letting
 pub mod Granting
+pub mod ServedPorts
 pub mod DecidedSlots
 pub mod Begun
 pub mod Records
@@ -14,5 +16,6 @@ pub mod Endings
 pub mod NotedSlots
 pub mod CrossedCells
 pub mod ByPlaces
+pub mod NamesOf
 pub mod PostedInputs
 pub mod RunEnd

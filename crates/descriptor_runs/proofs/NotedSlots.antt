@@ -52,10 +52,9 @@ module _ (scheduler : Scheduler) (scheduling : IsScheduler scheduler) (plan : Sw
           noted = was.noted;
         };
         inputs = is.inputs;
-        rows_are = is.rows_are;
-        rows = is.rows;
         names = is.names;
         outputs = is.outputs;
         matched = is.matched;
         numbers = is.numbers;
+        parts = is.parts;
       }

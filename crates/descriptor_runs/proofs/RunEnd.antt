@@ -123,16 +123,16 @@ numbers_with numbers ports rounds slots dropped forwarded copies cells longest =
 
 module _ (scheduler : Scheduler) (scheduling : IsScheduler scheduler) (plan : SwitchPlan) (good : IsGood plan) (countable : IsCountable plan) (slots : ℕ)
     (ends : IsLengthUnder scheduler plan slots) (switch : Switch) (is : IsBefore scheduler plan slots switch) where
-  pub dropped_fits : sum_by (λ (input : InputValue). input.dropped) switch.inputs.items < 2 ^ 32
+  pub dropped_fits : sum_by (λ (input : InputValue). input.dropped) switch.inputs < 2 ^ 32
   dropped_fits =
       let few = came_few scheduler plan slots good countable ends in
-      let sum = sum_dropped scheduler plan slots switch.inputs.items is.inputs in
+      let sum = sum_dropped scheduler plan slots switch.inputs is.inputs in
       omega (arith, few, sum)
 
-  pub admitted_fits : sum_by (λ (input : InputValue). input.admitted) switch.inputs.items < 2 ^ 32
+  pub admitted_fits : sum_by (λ (input : InputValue). input.admitted) switch.inputs < 2 ^ 32
   admitted_fits =
       let few = came_few scheduler plan slots good countable ends in
-      let sum = sum_admitted scheduler plan slots switch.inputs.items is.inputs in
+      let sum = sum_admitted scheduler plan slots switch.inputs is.inputs in
       omega (arith, few, sum)
 
   -- with these lines, where nothing crosses after the end and no more messages than cells have crossed
@@ -159,8 +159,8 @@ module _ (scheduler : Scheduler) (scheduling : IsScheduler scheduler) (plan : Sw
         omega (arith, within, few, each, sum)
 
     pub summary_is : (numbers : PlanNumbers) → ArePlanNumbers plan numbers → (ports dropped forwarded copies cells : ℕ) (longest : List ℕ)
-        → ports ≡ switch.meter.ports → dropped ≡ sum_by (λ (input : InputValue). input.dropped) switch.inputs.items
-        → forwarded ≡ sum_by (λ (input : InputValue). input.admitted) switch.inputs.items → copies ≡ sum_by (λ (line : OutLine). line.packets) lines
+        → ports ≡ switch.meter.ports → dropped ≡ sum_by (λ (input : InputValue). input.dropped) switch.inputs
+        → forwarded ≡ sum_by (λ (input : InputValue). input.admitted) switch.inputs → copies ≡ sum_by (λ (line : OutLine). line.packets) lines
         → cells ≡ sum_by (λ (line : OutLine). line.cells) lines
         → ((noted : List NotedSlot) → HasNoted switch.meter noted
         → longest ≡ map (λ level. longest_wait switch.meter.ports level noted) (range_with_len 0 LEVELS))
@@ -169,8 +169,8 @@ module _ (scheduler : Scheduler) (scheduling : IsScheduler scheduler) (plan : Sw
     summary_is numbers told ports dropped forwarded copies cells longest ports_is dropped_is forwarded_is copies_is cells_is longest_is =
         let size : ports ≡ ports_of plan = ports_is ∙ is.switch_is.meter_ports in
         let rounds : switch.rounds ≡ plan.rounds = is.switch_is.rounds in
-        let drops = dropped_is ∙ sum_dropped scheduler plan slots switch.inputs.items is.inputs in
-        let admits = forwarded_is ∙ sum_admitted scheduler plan slots switch.inputs.items is.inputs in
+        let drops = dropped_is ∙ sum_dropped scheduler plan slots switch.inputs is.inputs in
+        let admits = forwarded_is ∙ sum_admitted scheduler plan slots switch.inputs is.inputs in
         let messages = copies_is ∙ sum_packets scheduler plan slots lines these_lines in
         let crossed = cells_is ∙ sum_cells scheduler plan slots lines these_lines in
         let noted = map noted_of (schedule_under scheduler plan slots) in

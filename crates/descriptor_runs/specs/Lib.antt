@@ -1,6 +1,6 @@
 pub mod InputSteps
 pub mod OutputSteps
 pub mod SwitchSteps
-pub mod RunningSteps
+pub mod PortSteps
 pub mod Outcomes
 pub mod FinishingSteps

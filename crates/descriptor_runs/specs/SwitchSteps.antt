@@ -4,9 +4,8 @@ use Rattle.cell_cutter.specs.declared.cell.Cell.{Cell}
 use Rattle.cell_cutter.specs.declared.cell.CellName.{CellName}
 use Rattle.card_core.specs.Plans.{Plan as CardPlan, no_packet, cell_named, size_of}
 use Rattle.card_core.specs.Queues.{waiting, queue_in}
-use Rattle.card_core.specs.Posts.{queue_served, row_at, granted_at}
+use Rattle.card_core.specs.Posts.{queue_served, granted_at}
 use Rattle.slot_match.specs.declared.matching.Served.{Served}
-use Rattle.slot_match.specs.Rows.{empty_row}
 use Rattle.slot_match.specs.Parts.{served_of}
 use Rattle.multicast_queue.specs.FanQueues.{first_name}
 use Rattle.slot_records.specs.Slots.{match_under, granted_name}
@@ -16,10 +15,10 @@ use Rattle.service_bound.specs.Waits.{noted_of}
 use Rattle.service_bound.specs.MeterSteps.{HasNoted}
 use Rattle.named_schedulers.specs.Named.{decision_named}
 use Rattle.switch_plan.specs.GoodPlans.{SwitchPlan}
-use Rattle.run_laws.specs.Runs.{ports_of, setup_for, card_at, posts_under, parts_under, rows_in, before_under}
+use Rattle.run_laws.specs.Runs.{ports_of, setup_for, card_at, posts_under, parts_under}
 use Rattle.run_laws.specs.Sums.{schedule_under}
 use Rattle.idle_slots.specs.Idle.{IsIdle}
-use Rattle.descriptor_runs.specs.InputSteps.{InputValue, HasServed, row_in}
+use Rattle.descriptor_runs.specs.InputSteps.{InputValue, HasServed}
 use Rattle.descriptor_runs.specs.OutputSteps.{OutputValue, HasCome}
 use Rattle.descriptor_runs.specs.declared.switch.Switch.{Switch}
 use Rattle.descriptor_runs.specs.declared.switch.Activity.{Activity}
@@ -76,42 +75,22 @@ pub record IsSwitch (scheduler : Scheduler) (plan : SwitchPlan) (t : ℕ) (switc
 -- Before slot t of the run: the slots before it are made, and what slot t - 1 granted has come to the outputs.
 pub record IsBefore (scheduler : Scheduler) (plan : SwitchPlan) (t : ℕ) (switch : Switch) : Type 0 where
   pub switch_is : IsSwitch scheduler plan t switch
-  pub inputs : AreInputs scheduler plan t false switch.inputs.items
-  pub rows : switch.columns ≡ map row_in switch.inputs.items
+  pub inputs : AreInputs scheduler plan t false switch.inputs
   pub names : AreNames scheduler plan t switch.names
   pub outputs : AreOutputs scheduler plan (t + 1) switch.outputs.items
 
 -- In slot t of the run, which is decided: the packets of the slot have arrived, and nothing was served yet.
 pub record IsDecided (scheduler : Scheduler) (plan : SwitchPlan) (t : ℕ) (switch : Switch) : Type 0 where
   pub switch_is : IsSwitch scheduler plan (t + 1) switch
-  pub inputs : AreInputs scheduler plan t true switch.inputs.items
-  pub rows_are : switch.columns ≡ map row_in switch.inputs.items
-  pub rows : switch.columns ≡ rows_in plan (before_under scheduler plan t) t
+  pub inputs : AreInputs scheduler plan t true switch.inputs
   pub names : AreNames scheduler plan t switch.names
   pub outputs : AreOutputs scheduler plan (t + 1) switch.outputs.items
   pub matched : switch.matched ≡ (decision_under scheduler (setup_for plan) (posts_under scheduler plan) t).matched
   pub numbers : switch.numbers ≡ (decision_under scheduler (setup_for plan) (posts_under scheduler plan) t).numbers
+  pub parts : AreParts scheduler plan t switch.parts
 
 -- what goes on in slot t of the run
 abbrev pub IsActivity : Scheduler → SwitchPlan → ℕ → Activity → Type 0
 IsActivity scheduler plan t Done = is_done_at (ports_of plan) (posts_under scheduler plan) t ≡ true
 IsActivity scheduler plan t Idle = (is_done_at (ports_of plan) (posts_under scheduler plan) t ≡ false) × IsIdle scheduler plan t
 IsActivity scheduler plan t Busy = is_done_at (ports_of plan) (posts_under scheduler plan) t ≡ false
-
--- what goes on where an input is looked at too, whose row is empty or not, and to which more packets are to come or not
-abbrev pub activity_with : Activity → Bool → Bool → Activity
-activity_with activity false more = Busy
-activity_with Done true false = Done
-activity_with Done true true = Idle
-activity_with Idle true more = Idle
-activity_with Busy true more = Busy
-
--- in slot t the first k ports ask for nothing
-abbrev pub AreEmptyTo : Scheduler → SwitchPlan → ℕ → ℕ → Type 0
-AreEmptyTo scheduler plan t k = (i : ℕ) → i < k → row_at (card_at plan i) (parts_under scheduler plan i t) t ≡ empty_row
-
--- what goes on in slot t at the first k ports
-abbrev pub IsActivityTo : Scheduler → SwitchPlan → ℕ → ℕ → Activity → Type 0
-IsActivityTo scheduler plan t k Done = (is_done_at k (posts_under scheduler plan) t ≡ true) × AreEmptyTo scheduler plan t k
-IsActivityTo scheduler plan t k Idle = (is_done_at k (posts_under scheduler plan) t ≡ false) × AreEmptyTo scheduler plan t k
-IsActivityTo scheduler plan t k Busy = is_done_at k (posts_under scheduler plan) t ≡ false

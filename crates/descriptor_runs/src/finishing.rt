@@ -75,8 +75,8 @@ pub(crate) fn finish(
     slots_add_one_cell();
     let ports = switch.meter.ports();
     let longest = longest_of(&switch.meter);
-    let dropped = dropped_in(&switch.inputs);
-    let forwarded = admitted_in(&switch.inputs);
+    let dropped = dropped_in(switch.inputs.as_slice());
+    let forwarded = admitted_in(switch.inputs.as_slice());
     let (captures, lines) = leave(alloc, switch.outputs)?;
     let summary = Summary {
         ports,

@@ -139,6 +139,7 @@ impl Input {
     pub(crate) fn leave(&mut self, part: Served) -> CellName
         requires { (served : List (Option APart)) × HasServed self.old served true × IsPartOf (row_in self.old) part }
         ensures plan { self.new.plan ≡ self.old.plan }
+        ensures next { self.new.next ≡ self.old.next }
         ensures left { (served : List (Option APart)) → HasServed self.old served true → IsPartOf (row_in self.old) part
             → HasServed self.new (served ++ Some part ∷ []) false }
         ensures name { (served : List (Option APart)) → HasServed self.old served true → IsPartOf (row_in self.old) part

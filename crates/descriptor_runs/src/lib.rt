@@ -4,10 +4,13 @@
 //! from the bytes of its input to the end of each output's capture.
 #![tactic(auto)]
 
+mod cell_names;
 mod finishing;
+mod input_ports;
 mod inputs;
 mod noting;
 mod outputs;
+mod requests;
 mod running;
 mod serving;
 mod switch;

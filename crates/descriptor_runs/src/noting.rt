@@ -13,21 +13,17 @@ ghost use Rattle.run_laws.specs.Runs.{ports_of, posts_under};
 ghost use Rattle.descriptor_runs.specs.InputSteps.{HasServed, row_in};
 ghost use Rattle.descriptor_runs.specs.SwitchSteps.{AreInputs, IsNameOf, AreNames};
 
+use crate::cell_names::CellNames;
 use crate::inputs::Input;
 use card_core::Planned;
 use cell_cutter::{Cell, CellName, MAX_FORWARDED_BYTES, Packet, cut};
 use crossbar::Post;
-use rotating_pick::{Kind, LEVELS, MAX_PORTS, PORT_COUNT, only};
+use rotating_pick::{Kind, LEVELS, MAX_PORTS, only};
 use slot_match::Row;
 
 /// Puts what each port posts in the slot that is decided into the list of as many posts: its row, the cell that it was granted in
 /// the slot before, cut from the bytes of its packet, and whether it has more to come.
-pub(crate) fn put_posts(
-    posts: &mut [Post],
-    inputs: &[Input],
-    rows: &[Row],
-    names: &[Option<CellName>; PORT_COUNT],
-)
+pub(crate) fn put_posts(posts: &mut [Post], inputs: &[Input], rows: &[Row], names: &CellNames)
     requires { (scheduler : Scheduler) × (plan : SwitchPlan) × (slot : ℕ) × IsScheduler scheduler × IsGood plan
         × AreInputs scheduler plan slot true inputs.now × (rows.now ≡ map row_in inputs.now) × AreNames scheduler plan slot names.now
         × (length posts.old ≡ ports_of plan) }
@@ -36,7 +32,7 @@ pub(crate) fn put_posts(
         → length posts.old ≡ ports_of plan → posts.new ≡ map (λ i. posts_under scheduler plan i slot) (range_with_len 0 (ports_of plan)) }
 {
     for place in 0..posts.len() {
-        posts[place] = post_of(&inputs[place], &rows[place], names[place]);
+        posts[place] = post_of(&inputs[place], &rows[place], names.get(place as u32));
     }
 }
 

@@ -1,4 +1,4 @@
-ghost use Rattle.std.specs.Prelude.{◌≡◌, ℕ, ◌+◌, ◌<◌, ◌≤◌, false, Some, IfOk, OnOk, length};
+ghost use Rattle.std.specs.Prelude.{◌≡◌, ℕ, ◌+◌, ◌<◌, ◌≤◌, false, IfOk, OnOk};
 ghost use Rattle.eslip_rounds.specs.Schedulers.{Scheduler, IsScheduler};
 ghost use Rattle.idle_slots.specs.Quiet.{IsQuiet};
 ghost use Rattle.idle_slots.specs.Idle.{IsIdle};
@@ -8,11 +8,9 @@ ghost use Rattle.switch_plan.specs.GoodPlans.{SwitchPlan, IsGood, IsCountable, s
 ghost use Rattle.run_laws.specs.Ends.{IsLengthUnder};
 ghost use Rattle.run_laws.specs.Runs.{ports_of, posts_under};
 ghost use Rattle.descriptor_runs.specs.Outcomes.{IsRunOutcome};
-ghost use Rattle.descriptor_runs.specs.RunningSteps.{IsFirst, earlier_of};
 ghost use Rattle.descriptor_runs.specs.SwitchSteps.{IsBefore, IsDecided, IsActivity};
 
 use crate::finishing::{PlanNumbers, finish};
-use crate::inputs::Input;
 use crate::noting::put_posts;
 use crate::switch::{Activity, Switch};
 use idle_slots::laws;
@@ -115,8 +113,8 @@ impl Switch {
         }
         put_posts(
             &mut self.posts,
-            &self.inputs,
-            self.columns.rows(),
+            self.inputs.as_slice(),
+            self.inputs.columns().rows(),
             &self.names,
         );
         sink.note(slot, &self.posts, &self.matched, self.numbers)
@@ -160,31 +158,9 @@ impl Switch {
         laws::gaps_can_be_skipped();
         laws::runs_do_not_end_in_gaps();
         ends::runs_end();
-        let next = first_arrival(&self.inputs).unwrap_or(slot);
+        let next = self.inputs.first_arrival().unwrap_or(slot);
         self.meter.skip(next - slot);
         sink.skip(slot, next);
         next
-    }
-}
-
-// The slot in which the next packet arrives at an input, if one is to come.
-fn first_arrival(inputs: &[Input]) -> Option<u32>
-    ensures { IsFirst (length inputs.now) inputs.now result }
-{
-    let mut first = None;
-    for input in inputs {
-        first = earlier(first, input.next_slot());
-    }
-    first
-}
-
-// The earlier of two slots, of which there may be none.
-fn earlier(a: Option<u32>, b: Option<u32>) -> Option<u32>
-    ensures { result ≡ earlier_of a b }
-{
-    match (a, b) {
-        (Some(a), Some(b)) => Some(a.min(b)),
-        (None, b) => b,
-        (a, None) => a,
     }
 }

@@ -1,74 +1,59 @@
-ghost use Rattle.std.specs.Prelude.{◌≡◌, ℕ, ◌+◌, ◌^◌, ◌<◌, ◌≤◌, List, [], ◌∷◌, ◌++◌, true, false, Option, Some, map, length, slice_get, slice_set, OnOk};
-ghost use Rattle.slot_match.specs.declared.matching.Served.{Served as APart};
+ghost use Rattle.std.specs.Prelude.{◌≡◌, ℕ, ◌+◌, ◌^◌, ◌<◌, ◌≤◌, ◌↔◌, true, false, map, length, OnOk};
+ghost use Rattle.rotating_pick.specs.PortSets.{Has};
+ghost use Rattle.slot_match.specs.Matches.{IsFreeInput, IsFreeOutput};
 ghost use Rattle.card_core.specs.Plans.{IsGoodPlan};
-ghost use Rattle.card_core.specs.Posts.{IsServable};
 ghost use Rattle.eslip_rounds.specs.Schedulers.{Scheduler, IsScheduler};
 ghost use Rattle.switch_plan.specs.GoodPlans.{SwitchPlan, IsGood, IsCountable};
 ghost use Rattle.slot_records.specs.Slots.{match_under};
-ghost use Rattle.descriptor_runs.specs.InputSteps.{HasServed, row_in};
 ghost use Rattle.descriptor_runs.specs.OutputSteps.{HasTaken, messages_with};
-ghost use Rattle.descriptor_runs.specs.SwitchSteps.{AreInputs, AreNames, AreOutputs, AreParts, AreGranted, name_by};
+ghost use Rattle.descriptor_runs.specs.SwitchSteps.{AreInputs, AreNames, AreOutputs, AreParts, AreGranted};
 
+use crate::cell_names::CellNames;
+use crate::input_ports::InputPorts;
 use crate::inputs::Input;
 use crate::outputs::Output;
 use cell_cutter::CellName;
-use eslip_rounds::Columns;
-use rotating_pick::{OutOfMemory, PORT_COUNT};
+use rotating_pick::{OutOfMemory, PORT_COUNT, Ports, all, difference, lowest, without};
 use slot_match::{Match, Served};
 use slot_records::laws;
 
-/// Takes what each input is served off its queues, brings its row up to date, and puts the name of the cell that it is
-/// granted among the names.
+/// Takes what each input is served off its queues, and grants it the cell that was its first.
 pub(crate) fn serve_inputs(
-    inputs: &mut [Input],
-    columns: &mut Columns,
+    inputs: &mut InputPorts,
+    matched: &Match,
     parts: &[Option<Served>; PORT_COUNT],
-    names: &mut [Option<CellName>; PORT_COUNT],
+    names: &mut CellNames,
 )
     requires { (scheduler : Scheduler) × (plan : SwitchPlan) × (slot : ℕ) × IsScheduler scheduler × IsGood plan
-        × AreInputs scheduler plan slot true inputs.old × (columns.old ≡ map row_in inputs.old) × AreParts scheduler plan slot parts.now }
+        × AreInputs scheduler plan slot true inputs.old × (matched.now ≡ match_under scheduler plan slot) × AreParts scheduler plan slot parts.now }
     ensures served { (scheduler : Scheduler) (plan : SwitchPlan) (slot : ℕ) → IsScheduler scheduler → IsGood plan
-        → AreInputs scheduler plan slot true inputs.old → columns.old ≡ map row_in inputs.old → AreParts scheduler plan slot parts.now
-        → AreInputs scheduler plan (slot + 1) false inputs.new × (columns.new ≡ map row_in inputs.new)
+        → AreInputs scheduler plan slot true inputs.old → matched.now ≡ match_under scheduler plan slot → AreParts scheduler plan slot parts.now
+        → AreInputs scheduler plan (slot + 1) false inputs.new
         × AreGranted scheduler plan slot names.new × AreNames scheduler plan (slot + 1) names.new }
 {
-    for place in 0..inputs.len() {
-        names[place] = serve_input(&mut inputs[place], columns, place as u32, parts[place]);
+    names.clear();
+    let mut rest = served_inputs(matched);
+    while let Some(port) = lowest(rest) {
+        rest = without(rest, port);
+        if let Some(part) = parts[port as usize] {
+            let name = inputs.leave(port, part);
+            names.put(port, name);
+        }
     }
 }
 
-// Takes what the input of this port is served, if it is, off its queue, and brings its row up to date. Answers the name of the cell
-// that it is granted.
-fn serve_input(
-    input: &mut Input,
-    columns: &mut Columns,
-    port: u32,
-    part: Option<Served>,
-) -> Option<CellName>
-    requires served { (served : List (Option APart)) × HasServed input.old served true × IsServable (row_in input.old) part }
-    requires row { slice_get columns.old port ≡ Some (row_in input.old) }
-    ensures plan { input.new.plan ≡ input.old.plan }
-    ensures left { (served : List (Option APart)) → HasServed input.old served true → IsServable (row_in input.old) part
-        → HasServed input.new (served ++ part ∷ []) false }
-    ensures row { columns.new ≡ slice_set columns.old port (row_in input.new) }
-    ensures name { (served : List (Option APart)) → HasServed input.old served true → IsServable (row_in input.old) part
-        → result ≡ name_by input.old.plan served part }
+// The inputs that the match serves.
+fn served_inputs(matched: &Match) -> Ports
+    ensures { (i : ℕ) → Has result i ↔ ((i < length matched.now) × (IsFreeInput matched.now i → ⊥)) }
 {
-    match part {
-        Some(part) => {
-            let name = input.leave(part);
-            columns.change(port, &input.row());
-            Some(name)
-        }
-        None => None,
-    }
+    difference(all(matched.ports()), matched.free_inputs())
 }
 
 /// Each output takes the cell that crosses to it: that of the input that feeds it. The only error is want of memory.
 pub(crate) fn feed_outputs(
     outputs: &mut [Output],
     inputs: &[Input],
-    names: &[Option<CellName>; PORT_COUNT],
+    names: &CellNames,
     matched: &Match,
     nano: bool,
 ) -> Result<(), OutOfMemory>
@@ -82,16 +67,26 @@ pub(crate) fn feed_outputs(
 {
     laws::slots_add_records();
     laws::slots_add_one_cell();
-    for place in 0..outputs.len() {
-        let Some(fed) = matched.fed(place as u32) else {
+    let mut rest = fed_outputs(matched);
+    while let Some(output) = lowest(rest) {
+        rest = without(rest, output);
+        let Some(fed) = matched.fed(output) else {
             continue;
         };
-        let from = fed.input as usize;
-        if let Some(name) = names[from] {
-            feed(&mut outputs[place], &inputs[from], name, nano)?;
-        }
+        let Some(name) = names.get(fed.input) else {
+            continue;
+        };
+        let input = &inputs[fed.input as usize];
+        feed(&mut outputs[output as usize], input, name, nano)?;
     }
     Ok(())
+}
+
+// The outputs that the match feeds.
+fn fed_outputs(matched: &Match) -> Ports
+    ensures { (j : ℕ) → Has result j ↔ ((j < length matched.now) × (IsFreeOutput matched.now j → ⊥)) }
+{
+    difference(all(matched.ports()), matched.free_outputs())
 }
 
 // The output takes this cell of the input, and with the last one of a packet the packet's record. The only error is want of

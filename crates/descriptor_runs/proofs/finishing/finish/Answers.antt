@@ -12,20 +12,20 @@ use Rattle.descriptor_runs.proofs.finishing.finish.Goals as goal
 pub dropped_in-dropped-requires : goal.dropped_in-dropped-requires
 dropped_in-dropped-requires c =
     let (scheduler, plan, scheduling, good, countable, ends, within, told, is) = c.requires in
-    subst (λ (inputs : List InputValue). sum_by (λ (input : InputValue). input.dropped) inputs < 2 ^ 32) (sym c.deref.ensures.value)
+    subst (λ (inputs : List InputValue). sum_by (λ (input : InputValue). input.dropped) inputs < 2 ^ 32) (sym c.as_slice.ensures)
     (dropped_fits scheduler scheduling plan good countable c.args.slots ends c.args.switch is)
 
 pub admitted_in-forwarded-requires : goal.admitted_in-forwarded-requires
 admitted_in-forwarded-requires c =
     let (scheduler, plan, scheduling, good, countable, ends, within, told, is) = c.requires in
-    subst (λ (inputs : List InputValue). sum_by (λ (input : InputValue). input.admitted) inputs < 2 ^ 32) (sym c.deref-2.ensures.value)
+    subst (λ (inputs : List InputValue). sum_by (λ (input : InputValue). input.admitted) inputs < 2 ^ 32) (sym c.as_slice-2.ensures)
     (admitted_fits scheduler scheduling plan good countable c.args.slots ends c.args.switch is)
 
 pub packets_in-requires : goal.packets_in-requires
 packets_in-requires c =
     let (scheduler, plan, scheduling, good, countable, ends, within, told, is) = c.requires in
     let slots = c.args.slots in
-    subst (λ (lines : List OutLine). sum_by (λ (line : OutLine). line.packets) lines < 2 ^ 32) (sym c.deref-3.ensures.value)
+    subst (λ (lines : List OutLine). sum_by (λ (line : OutLine). line.packets) lines < 2 ^ 32) (sym c.deref.ensures.value)
     (packets_fit scheduler scheduling plan good countable slots ends c.args.switch is c.in_ok-captures.lines.items c.in_ok-captures.ensures.lines
     (λ j below. c.runs_leave_nothing.ensures.ends scheduler plan slots j scheduling good ends below)
     (λ j. c.slots_add_one_cell.ensures.messages scheduler plan j slots))
@@ -34,7 +34,7 @@ pub cells_in-requires : goal.cells_in-requires
 cells_in-requires c =
     let (scheduler, plan, scheduling, good, countable, ends, within, told, is) = c.requires in
     let slots = c.args.slots in
-    subst (λ (lines : List OutLine). sum_by (λ (line : OutLine). line.cells) lines < 2 ^ 32) (sym c.deref-4.ensures.value)
+    subst (λ (lines : List OutLine). sum_by (λ (line : OutLine). line.cells) lines < 2 ^ 32) (sym c.deref-2.ensures.value)
     (cells_fit scheduler scheduling plan good countable slots ends c.args.switch is c.in_ok-captures.lines.items c.in_ok-captures.ensures.lines
     (λ j below. c.runs_leave_nothing.ensures.ends scheduler plan slots j scheduling good ends below)
     (λ j. c.slots_add_one_cell.ensures.messages scheduler plan j slots))
@@ -56,9 +56,9 @@ returns c = λ scheduler plan scheduling good countable ends within told is.
       summary = summary_is scheduler scheduling plan good countable slots ends switch is lines c.in_ok-captures.ensures.lines nothing fewer
           c.args.numbers.now told c.ports-ports.result c.dropped_in-dropped.result c.admitted_in-forwarded.result c.packets_in.result c.cells_in.result
           c.longest_of-longest.result c.ports-ports.ensures.value
-          (c.dropped_in-dropped.ensures ∙ ap (sum_by (λ (input : InputValue). input.dropped)) c.deref.ensures.value)
-          (c.admitted_in-forwarded.ensures ∙ ap (sum_by (λ (input : InputValue). input.admitted)) c.deref-2.ensures.value)
-          (c.packets_in.ensures ∙ ap (sum_by (λ (line : OutLine). line.packets)) c.deref-3.ensures.value)
-          (c.cells_in.ensures ∙ ap (sum_by (λ (line : OutLine). line.cells)) c.deref-4.ensures.value)
+          (c.dropped_in-dropped.ensures ∙ ap (sum_by (λ (input : InputValue). input.dropped)) c.as_slice.ensures)
+          (c.admitted_in-forwarded.ensures ∙ ap (sum_by (λ (input : InputValue). input.admitted)) c.as_slice-2.ensures)
+          (c.packets_in.ensures ∙ ap (sum_by (λ (line : OutLine). line.packets)) c.deref.ensures.value)
+          (c.cells_in.ensures ∙ ap (sum_by (λ (line : OutLine). line.cells)) c.deref-2.ensures.value)
           c.longest_of-longest.ensures;
     }

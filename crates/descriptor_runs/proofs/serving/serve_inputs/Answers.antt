@@ -1,104 +1,112 @@
-use Rattle.std.proofs.Common.{◌≡◌, ◌∙◌, ◌+◌, ◌<◌, ◌∷◌, ◌++◌, [], false, None, Some, length, get_or, set, sym, ap, subst, arith}
-use Rattle.std.specs.Prelude.{slice_get}
-use Rattle.std.proofs.lemmas.List.{length-set}
-use Rattle.std.proofs.lemmas.List.Edits.{fill_by_more}
-use Rattle.std.proofs.lemmas.Option.{slice_get-get_or, slice_get_within}
-use Rattle.std.proofs.Math.Seq.{map-set_same}
-use Rattle.std_lemmas.proofs.Lists.{get-set_other}
-use Rattle.card_core.specs.Posts.{IsServable}
-use Rattle.run_laws.specs.Runs.{ports_of, parts_under}
-use Rattle.slot_records.specs.Slots.{granted_name}
-use Rattle.descriptor_runs.specs.InputSteps.{InputValue, HasServed, row_in}
-use Rattle.descriptor_runs.specs.SwitchSteps.{AreInputs, AreGranted, name_by}
-use Rattle.descriptor_runs.proofs.InputPorts.{count-inputs, plan-of, row-there, rows-set, each-more}
-use Rattle.descriptor_runs.proofs.Granting.{may-serve, served-next, name-granted, names-next}
+use Rattle.std.proofs.Common.{◌≡◌, ◌∙◌, ◌<◌, Option, None, Some, refl, sym, subst, arith, slice_index_or}
+use Rattle.slot_match.specs.declared.matching.Served.{Served}
+use Rattle.slot_match.proofs.Sets.{zero-has}
+use Rattle.run_laws.specs.Runs.{ports_of}
+use Rattle.descriptor_runs.proofs.ServedPorts.{IsServing, AreServed, match-long, some-part, served-first, input-there, now, was, may, served-more, served-all}
 use Rattle.descriptor_runs.proofs.serving.serve_inputs.Goals as goal
 
-pub serve_input-requires-clause-served : goal.serve_input-requires-clause-served
-serve_input-requires-clause-served c =
-    let (scheduler, plan, t, scheduling, good, are, rows, parts) = c.requires in
-    let at = c.loop-place in
-    let k = at.place in
-    let d = c.index-inputs-place.result in
-    let input = get_or at.inputs k d in
-    let test = c.loop-place-test.true in
-    let long = at.invariant.count in
-    let count = count-inputs plan c.args.inputs.now are.plans in
-    let old : slice_get c.args.inputs.now k ≡ Some input = sym (at.invariant.later k (omega arith)) ∙ slice_get-get_or at.inputs k d (omega arith) in
-    let in_port : k < ports_of plan = omega arith in
-    let was = are.served k input old in (
-      parts_under scheduler plan k t,
-      was,
-      subst (IsServable (row_in input)) (sym (parts k in_port))
-          (may-serve scheduler scheduling plan good t k input in_port (plan-of plan c.args.inputs.now are.plans k input old) was),
+-- what is no value is none
+no-value : (part : Option Served) → ((x : Served) → part ≡ Some x → ⊥) → part ≡ None
+no-value None other = refl
+no-value (Some x) other = absurd (other x refl)
+
+pub loop-port-init : goal.loop-port-init
+loop-port-init c = record {
+  left = λ i has. (c.served_inputs-rest.ensures i).0 has;
+  served = λ scheduler plan t is. served-first scheduler plan t c.args.inputs.now c.args.matched.now c.args.parts.now is c.served_inputs-rest.result
+      c.clear.new.self c.served_inputs-rest.ensures c.clear.ensures;
+}
+
+pub without-rest-requires : goal.without-rest-requires
+without-rest-requires c =
+    let (scheduler, plan, t, scheduling, good, are, matched, parts) = c.requires in
+    let is : IsServing scheduler plan t c.args.inputs.now c.args.matched.now c.args.parts.now =
+    record { scheduling = scheduling; good = good; inputs_are = are; matched_is = matched; parts_are = parts } in
+    let long = match-long scheduler plan t c.args.inputs.now c.args.matched.now c.args.parts.now is in
+    let most = good.size.most in
+    let inside = (c.loop-port.invariant.left c.in-Some.port c.in-Some.ensures.member).0 in
+    omega arith
+
+pub bounds : goal.bounds
+bounds c =
+    let (scheduler, plan, t, scheduling, good, are, matched, parts) = c.requires in
+    let is : IsServing scheduler plan t c.args.inputs.now c.args.matched.now c.args.parts.now =
+    record { scheduling = scheduling; good = good; inputs_are = are; matched_is = matched; parts_are = parts } in
+    let long = match-long scheduler plan t c.args.inputs.now c.args.matched.now c.args.parts.now is in
+    let most = good.size.most in
+    let inside = (c.loop-port.invariant.left c.in-Some.port c.in-Some.ensures.member).0 in
+    omega arith
+
+pub leave-name-requires : goal.leave-name-requires
+leave-name-requires c =
+    let (scheduler, plan, t, scheduling, good, are, matched, parts_are) = c.requires in
+    let given = c.args.inputs.now in
+    let m = c.args.matched.now in
+    let parts = c.args.parts.now in
+    let is : IsServing scheduler plan t given m parts =
+    record { scheduling = scheduling; good = good; inputs_are = are; matched_is = matched; parts_are = parts_are } in
+    let i = c.in-Some.port in
+    let long = match-long scheduler plan t given m parts is in
+    let left = (c.loop-port.invariant.left i c.in-Some.ensures.member).0 in
+    let inside : i < ports_of plan = omega arith in
+    let part : Served = c.in-Some-parts.part in
+    let own = c.in-Some-parts.is in
+    let there = input-there scheduler plan t given m parts is i inside part own in (
+      there.0,
+      now scheduler plan t given m parts is i inside part own,
+      (c.loop-port.invariant.served scheduler plan t is).waiting i c.in-Some.ensures.member ∙ there.1,
+      was scheduler plan t given m parts is i inside part own,
+      may scheduler plan t given m parts is i inside part own,
     )
 
-pub serve_input-requires-clause-row : goal.serve_input-requires-clause-row
-serve_input-requires-clause-row c =
-    let at = c.loop-place in
-    let test = c.loop-place-test.true in
-    let long = at.invariant.count in
-    row-there at.inputs at.columns at.invariant.rows at.place c.index-inputs-place.result (omega arith)
+pub loop-port-preserved : goal.loop-port-preserved
+loop-port-preserved c = record {
+  left = λ i has. c.loop-port.invariant.left i ((c.without-rest.ensures.members i).0 has).1;
+  served = λ scheduler plan t is.
+      let given = c.args.inputs.now in
+      let m = c.args.matched.now in
+      let parts = c.args.parts.now in
+      let i = c.in-Some.port in
+      let long = match-long scheduler plan t given m parts is in
+      let left = c.loop-port.invariant.left i c.in-Some.ensures.member in
+      let inside : i < ports_of plan = let below = left.0 in omega arith in
+      absurd (some-part scheduler plan t given m parts is i inside left.1 (no-value (slice_index_or parts i None) c.in_default-parts.not-Some));
+}
 
-pub loop-place-preserved : goal.loop-place-preserved
-loop-place-preserved c =
-    let at = c.loop-place in
-    let k = at.place in
-    let d = c.index-inputs-place.result in
-    let input = get_or at.inputs k d in
-    let part = get_or c.args.parts.now k None in
-    let new = c.serve_input.new.input in
-    let name = c.serve_input.result in
-    let test = c.loop-place-test.true in
-    let long = at.invariant.count in
-    let inside : k < length at.inputs = omega arith in
-    let old : slice_get c.args.inputs.now k ≡ Some input = sym (at.invariant.later k (omega arith)) ∙ slice_get-get_or at.inputs k d inside in
-    record {
-      count = length-set at.inputs k new ∙ long;
-      names_long = length-set at.names k name ∙ at.invariant.names_long;
-      plans = map-set_same (λ (x : InputValue). x.plan) at.inputs k new d c.serve_input.ensures.plan ∙ at.invariant.plans;
-      later = λ i after. get-set_other at.inputs k i new (λ e. absurd (omega arith)) ∙ at.invariant.later i (omega arith);
-      rows = c.serve_input.ensures.row ∙ rows-set at.inputs at.columns at.invariant.rows k new;
-      served = λ scheduler plan t scheduling good are parts.
-          let count = count-inputs plan c.args.inputs.now are.plans in
-          let in_port : k < ports_of plan = omega arith in
-          let was = are.served k input old in
-          let may = subst (IsServable (row_in input)) (sym (parts k in_port))
-          (may-serve scheduler scheduling plan good t k input in_port (plan-of plan c.args.inputs.now are.plans k input old) was) in
-          each-more (λ i (x : InputValue). HasServed x (parts_under scheduler plan i (t + 1)) false) k at.inputs new inside
-          (at.invariant.served scheduler plan t scheduling good are parts)
-          (served-next scheduler scheduling plan good t k new
-          (subst (λ p. HasServed new (parts_under scheduler plan k t ++ p ∷ []) false) (parts k in_port)
-          (c.serve_input.ensures.left (parts_under scheduler plan k t) was may)));
-      named = λ scheduler plan t scheduling good are parts i below.
-          let count = count-inputs plan c.args.inputs.now are.plans in
-          let in_port : k < ports_of plan = omega arith in
-          let most = good.size.most in
-          let names_long = at.invariant.names_long in
-          let was = are.served k input old in
-          let own = plan-of plan c.args.inputs.now are.plans k input old in
-          let may = subst (IsServable (row_in input)) (sym (parts k in_port)) (may-serve scheduler scheduling plan good t k input in_port own was) in
-          let is : name ≡ granted_name scheduler plan k t = c.serve_input.ensures.name (parts_under scheduler plan k t) was may
-          ∙ (ap (name_by input.plan (parts_under scheduler plan k t)) (parts k in_port) ∙ name-granted scheduler scheduling plan good t k input own) in
-          ap (λ n. get_or (set at.names k n) i None) is
-          ∙ fill_by_more (λ j. granted_name scheduler plan j t) at.names k None (omega arith)
-          (at.invariant.named scheduler plan t scheduling good are parts) i below;
-    }
+pub loop-port-preserved-in-Some-parts : goal.loop-port-preserved-in-Some-parts
+loop-port-preserved-in-Some-parts c = record {
+  left = λ i has. c.loop-port.invariant.left i ((c.without-rest.ensures.members i).0 has).1;
+  served = λ scheduler plan t is.
+      let given = c.args.inputs.now in
+      let m = c.args.matched.now in
+      let parts = c.args.parts.now in
+      let i = c.in-Some.port in
+      let member = c.in-Some.ensures.member in
+      let long = match-long scheduler plan t given m parts is in
+      let left = (c.loop-port.invariant.left i member).0 in
+      let inside : i < ports_of plan = omega arith in
+      let part : Served = c.in-Some-parts.part in
+      let own = c.in-Some-parts.is in
+      let there = input-there scheduler plan t given m parts is i inside part own in
+      let served = now scheduler plan t given m parts is i inside part own in
+      let so_far = c.loop-port.invariant.served scheduler plan t is in
+      let at = so_far.waiting i member ∙ there.1 in
+      let has = was scheduler plan t given m parts is i inside part own in
+      let fits = may scheduler plan t given m parts is i inside part own in
+      let (after, there_now, left_now) = c.leave-name.ensures.left there.0 served at has fits in
+      subst (AreServed scheduler plan t given c.without-rest.result c.leave-name.new.self) (sym c.put.ensures)
+      (served-more scheduler plan t given m parts is i inside part own c.loop-port.rest c.without-rest.result c.loop-port.inputs c.leave-name.new.self
+      c.loop-port.names after c.leave-name.result so_far member c.without-rest.ensures.members c.leave-name.ensures.plans c.leave-name.ensures.others
+      there_now left_now (c.leave-name.ensures.name there.0 served at has fits));
+}
 
 pub returns : goal.returns
 returns c = record {
-  served = λ scheduler plan t scheduling good were rows parts.
-      let at = c.loop-place in
-      let past = c.loop-place-test.false in
-      let most = at.auto.place-end in
-      let long = at.invariant.count in
-      let count = count-inputs plan c.args.inputs.now were.plans in
-      let are : AreInputs scheduler plan (t + 1) false at.inputs = record {
-        plans = at.invariant.plans ∙ were.plans;
-        served = λ i input mine. let inside = slice_get_within at.inputs i input mine in
-            at.invariant.served scheduler plan t scheduling good were parts i input (omega arith) mine;
-      } in
-      let granted : AreGranted scheduler plan t at.names =
-      λ i inside. at.invariant.named scheduler plan t scheduling good were parts i (omega arith) in
-      (are, at.invariant.rows, granted, names-next scheduler scheduling plan good t c.args.inputs.now at.names were granted);
+  served = λ scheduler plan t scheduling good are matched parts.
+      served-all scheduler plan t c.args.inputs.now c.args.matched.now c.args.parts.now
+      (record { scheduling = scheduling; good = good; inputs_are = are; matched_is = matched; parts_are = parts })
+      c.loop-port.inputs c.loop-port.names c.loop-port.rest
+      (c.loop-port.invariant.served scheduler plan t
+      (record { scheduling = scheduling; good = good; inputs_are = are; matched_is = matched; parts_are = parts }))
+      (λ i. zero-has c.loop-port.rest i (c.in_default.ensures.none.0 refl));
 }

@@ -1,4 +1,4 @@
-use Rattle.std.proofs.Common.{◌≡◌, ◌∙◌, [], None, Some, slice_index_or, length, map, replicate, refl, sym, ap, subst, arith}
+use Rattle.std.proofs.Common.{◌≡◌, ◌∙◌, [], None, Some, slice_index_or, length, map, refl, sym, ap, subst, arith}
 use Rattle.std.specs.Prelude.{slice_get}
 use Rattle.std.specs.Option.{option_map}
 use Rattle.std.proofs.lemmas.List.{length-map}
@@ -7,23 +7,20 @@ use Rattle.std.proofs.lemmas.Option.{slice_get-map, slice_get_within, get_or_fro
 use Rattle.std_lemmas.proofs.Lists.{get_or-same}
 use Rattle.rotating_pick.specs.declared.limits.TheConstants.{MAX_PORTS}
 use Rattle.pointer_state.specs.Places.{places_at_first}
-use Rattle.slot_match.specs.Rows.{empty_row}
 use Rattle.named_schedulers.specs.Named.{decision_named}
 use Rattle.card_core.specs.Plans.{Plan, plan_of}
 use Rattle.switch_plan.specs.GoodPlans.{switch_plan_of, packets_in}
 use Rattle.run_laws.specs.Runs.{ports_of, card_at, before_under}
 use Rattle.descriptor_runs.specs.OutputSteps.{HasCome}
 use Rattle.descriptor_runs.specs.SwitchSteps.{IsNameOf}
-use Rattle.descriptor_runs.proofs.InputPorts.{count-inputs}
-use Rattle.descriptor_runs.proofs.Begun.{new-rows}
 use Rattle.descriptor_runs.proofs.switch.Switch.make.Goals as goal
 
-pub inputs_of-requires-clause-good : goal.inputs_of-requires-clause-good
-inputs_of-requires-clause-good c = λ port card there.
+pub make-requires-clause-good : goal.make-requires-clause-good
+make-requires-clause-good c = λ port card there.
     (c.requires.good.cards port (plan_of card) (slice_get-map plan_of c.args.plan.cards.items port ∙ ap (option_map plan_of) there)).good
 
-pub inputs_of-requires-clause-few : goal.inputs_of-requires-clause-few
-inputs_of-requires-clause-few c = λ port card there.
+pub make-requires-clause-few : goal.make-requires-clause-few
+make-requires-clause-few c = λ port card there.
     let packets = packets_in (switch_plan_of c.args.plan) in
     let mine : slice_get packets port ≡ Some card.packets.items =
     slice_get-map (λ (p : Plan). p.packets) (map plan_of c.args.plan.cards.items) port
@@ -39,25 +36,22 @@ unfolding before_under
 returns c =
     let plan = switch_plan_of c.args.plan in
     let ports : c.len-ports.result ≡ ports_of plan = c.len-ports.ensures ∙ (c.args.plan.cards.ok.0 ∙ sym (length-map c.args.plan.cards.items plan_of)) in
-    let made = c.in_ok-make.ensures in
-    let inputs = c.in_ok-inputs_of.field-0.items in
+    let made = c.in_ok-make-2.ensures in
     record {
       switch_is = record {
         decides = ap decision_named c.new.ensures;
         rounds = refl;
         nano = refl;
-        pointers = c.new-3.ensures.value ∙ ap places_at_first ports;
-        matched = c.new-4.ensures.whole.count ∙ ports;
+        pointers = c.new-2.ensures.value ∙ ap places_at_first ports;
+        matched = c.new-3.ensures.whole.count ∙ ports;
         posts = sym c.in_ok-posts.posts.ok.0 ∙ (c.in_ok-posts.ensures.len ∙ ports);
         meter_ports = made.0 ∙ ports;
         meter_count = made.1.count;
         noted = made.1;
       };
-      inputs = record { plans = c.in_ok-inputs_of.ensures.plans; served = c.in_ok-inputs_of.ensures.served };
-      rows = c.new-2.ensures ∙ (ap (λ n. replicate n empty_row) (ports ∙ sym (count-inputs plan inputs c.in_ok-inputs_of.ensures.plans))
-          ∙ new-rows inputs c.in_ok-inputs_of.ensures.served);
+      inputs = record { plans = c.in_ok-make.ensures.plans; served = c.in_ok-make.ensures.served };
       names = λ i inside.
-          subst (IsNameOf (card_at plan i) None) (sym (ap (λ names. slice_index_or names i None) c.no_names.ensures ∙ get_or-same None MAX_PORTS i)) refl;
+          subst (IsNameOf (card_at plan i) None) (sym (ap (λ names. slice_index_or names i None) c.new-4.ensures ∙ get_or-same None MAX_PORTS i)) refl;
       outputs = record {
         count = c.in_ok-outputs.ensures.count ∙ (ap length c.deref.ensures.value ∙ sym (length-map c.args.plan.cards.items plan_of));
         come = λ j output at. subst (HasCome (decision_named c.args.scheduler) plan 1 j) (sym (c.in_ok-outputs.ensures.each j output at))

@@ -14,11 +14,11 @@ note-requires g c =
     let switch = c.args.self.now in
     let posts = c.put_posts.new.posts in
     let are : posts ≡ map (λ i. posts_under scheduler plan i t) (range_with_len 0 (ports_of plan)) =
-    c.put_posts.ensures scheduler plan t scheduling good (subst (AreInputs scheduler plan t true) (sym c.deref.ensures.value) is.inputs)
-    (c.rows.ensures ∙ (is.rows_are ∙ ap (map row_in) (sym c.deref.ensures.value))) is.names
+    c.put_posts.ensures scheduler plan t scheduling good (subst (AreInputs scheduler plan t true) (sym c.as_slice.ensures) is.inputs)
+    (c.rows.ensures ∙ (c.columns.ensures ∙ ap (map row_in) (sym c.as_slice.ensures))) is.names
     (ap length c.deref_mut.ensures.value ∙ is.switch_is.posts) in
-    let again = is-run_slot scheduler scheduling plan good t switch is posts are c.deref-2.result.now
-    (c.deref-2.ensures.value ∙ posts-back scheduler scheduling plan good t switch is posts are) in
+    let again = is-run_slot scheduler scheduling plan good t switch is posts are c.deref.result.now
+    (c.deref.ensures.value ∙ posts-back scheduler scheduling plan good t switch is posts are) in
     (scheduler, plan, slots, scheduling, ends, below, noted, again)
 
 pub returns-clause-noted : goal.returns-clause-noted
@@ -27,10 +27,10 @@ returns-clause-noted g c = λ scheduler plan scheduling good is noted.
     let switch = c.args.self.now in
     let posts = c.put_posts.new.posts in
     let are : posts ≡ map (λ i. posts_under scheduler plan i t) (range_with_len 0 (ports_of plan)) =
-    c.put_posts.ensures scheduler plan t scheduling good (subst (AreInputs scheduler plan t true) (sym c.deref.ensures.value) is.inputs)
-    (c.rows.ensures ∙ (is.rows_are ∙ ap (map row_in) (sym c.deref.ensures.value))) is.names
+    c.put_posts.ensures scheduler plan t scheduling good (subst (AreInputs scheduler plan t true) (sym c.as_slice.ensures) is.inputs)
+    (c.rows.ensures ∙ (c.columns.ensures ∙ ap (map row_in) (sym c.as_slice.ensures))) is.names
     (ap length c.deref_mut.ensures.value ∙ is.switch_is.posts) in
-    let again = is-run_slot scheduler scheduling plan good t switch is posts are c.deref-2.result.now
-    (c.deref-2.ensures.value ∙ posts-back scheduler scheduling plan good t switch is posts are) in
+    let again = is-run_slot scheduler scheduling plan good t switch is posts are c.deref.result.now
+    (c.deref.ensures.value ∙ posts-back scheduler scheduling plan good t switch is posts are) in
     let after = with-posts scheduler scheduling plan good t switch is posts are in
     on_ok_weaker c.note.result (λ more. (after, more)) (c.note.ensures.noted scheduler plan noted again)

@@ -7,7 +7,7 @@ use Rattle.std_lemmas.proofs.Lists.{get-snoc, gone_more, here_of}
 use Rattle.card_core.specs.declared.plan.CardPlan.{CardPlan}
 use Rattle.card_core.specs.Plans.{plan_of}
 use Rattle.descriptor_runs.specs.InputSteps.{InputValue, HasServed}
-use Rattle.descriptor_runs.proofs.switch.inputs_of.Goals as goal
+use Rattle.descriptor_runs.proofs.input_ports.inputs_of.Goals as goal
 
 -- one more input is made
 made-more : (inputs : List InputValue) (plans : List CardPlan) (input : InputValue) (plan : CardPlan)

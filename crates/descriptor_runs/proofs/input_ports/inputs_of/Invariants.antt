@@ -3,7 +3,7 @@ use Rattle.std.specs.Prelude.{slice_get, vec_capacity}
 use Rattle.std.specs.Vec.Iter.{into_iter_items, into_iter_len}
 use Rattle.card_core.specs.Plans.{plan_of}
 use Rattle.descriptor_runs.specs.InputSteps.{InputValue, HasServed}
-use Rattle.descriptor_runs.proofs.switch.inputs_of.Given as goal
+use Rattle.descriptor_runs.proofs.input_ports.inputs_of.Given as goal
 
 abbrev pub invariant-loop-plan : goal.invariant-loop-plan
 invariant-loop-plan l = record {
