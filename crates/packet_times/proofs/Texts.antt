@@ -5,7 +5,6 @@ use Rattle.std.specs.List.{flat_map, join_with_byte}
 use Rattle.std.specs.Result.{result_ok}
 use Rattle.std.proofs.lemmas.List.{append-nil}
 use Rattle.std.proofs.lemmas.Option.{none-some, same_Some}
-use Rattle.std_lemmas.proofs.Appending.{both}
 use Rattle.rotating_pick.specs.declared.memory.OutOfMemory.{OutOfMemory}
 use Rattle.packet_times.specs.declared.fields.Field.{Field}
 use Rattle.packet_times.specs.Rows.{row_text}
@@ -14,15 +13,6 @@ use Rattle.packet_times.specs.FieldSteps.{field_text, after_comma}
 join-commas : (word : List ℕ) (fields : List Field) → join_with_byte 44 (word ∷ map field_text fields) ≡ word ++ flat_map after_comma fields
 join-commas word [] = sym (append-nil word)
 join-commas word (field ∷ fields) = ap (λ s. word ++ (44 ∷ s)) (join-commas (field_text field) fields)
-
--- a row: the input's number, the fields, and the line feed
-pub whole_row : (old named mid new : List ℕ) (input : ℕ) (fields : List Field) → named ≡ old ++ decimal input → mid ≡ named ++ flat_map after_comma fields
-    → new ≡ mid ++ codes "\n" → new ≡ old ++ row_text (decimal input ∷ map field_text fields)
-unfolding row_text
-whole_row old named mid new input fields first rest end =
-    let line = flat_map after_comma fields in
-    both old mid new (decimal input ++ line) (codes "\n") (both old named mid (decimal input) line first rest) end
-    ∙ ap (λ s. old ++ (s ++ codes "\n")) (sym (join-commas (decimal input) fields))
 
 -- a row of its pieces
 pub row-pieces : (input : ℕ) (fields : List Field)

@@ -1,4 +1,4 @@
-ghost use Rattle.std.specs.Prelude.{◌≡◌, ◌+◌, ◌*◌, ◌≤◌, ◌++◌, length, OnOk, string_bytes};
+ghost use Rattle.std.specs.Prelude.{◌≡◌, ◌+◌, ◌*◌, ◌≤◌, ◌++◌, length};
 ghost use Rattle.std.specs.List.{flat_map};
 ghost use Rattle.slot_report.specs.Texts.{letter_of};
 ghost use Rattle.packet_times.specs.Rows.{state_name, row_text};
@@ -8,7 +8,6 @@ ghost use Rattle.packet_times.specs.PuttingSteps.{IsPut};
 use crate::state::PacketState;
 use itoa::Buffer;
 use rotating_pick::Kind;
-use std::alloc::AllocError;
 
 /// The fields of a row after the input's number.
 pub(crate) const FIELDS: usize = 10;
@@ -106,36 +105,4 @@ pub(crate) fn put_row(buf: &mut [u8], at: usize, row: &Row) -> usize
     let input = put_field(buf, at, &Field::Number(row.input as u64));
     let fields = put_fields(buf, input, &row.fields);
     put_bytes(buf, fields, b"\n")
-}
-
-// Appends a field.
-fn push_field(text: &mut String, field: &Field) -> Result<(), AllocError>
-    ensures { OnOk result (string_bytes text.new ≡ string_bytes text.old ++ field_text field.now) }
-{
-    match *field {
-        Field::Empty => Ok(()),
-        Field::State(state) => text.push_str(name_of(state)),
-        Field::Letter(kind) => text.push_str(letter(kind)),
-        Field::Number(number) => text.push_str(Buffer::new().format(number)),
-    }
-}
-
-// Appends the fields, each after a comma.
-fn push_fields(text: &mut String, fields: &[Field]) -> Result<(), AllocError>
-    ensures { OnOk result (string_bytes text.new ≡ string_bytes text.old ++ flat_map after_comma fields.now) }
-{
-    for field in fields {
-        text.push_str(",")?;
-        push_field(text, field)?;
-    }
-    Ok(())
-}
-
-/// Appends the line of a row.
-pub(crate) fn push_row(text: &mut String, row: &Row) -> Result<(), AllocError>
-    ensures { OnOk result (string_bytes text.new ≡ string_bytes text.old ++ row_text (texts_of row.now)) }
-{
-    text.push_str(Buffer::new().format(row.input))?;
-    push_fields(text, &row.fields)?;
-    text.push_str("\n")
 }

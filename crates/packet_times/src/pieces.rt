@@ -63,6 +63,7 @@ impl PacketRows {
     pub fn put(&mut self, buf: &mut [u8]) -> usize
         requires { 256 ≤ length buf.old }
         ensures text { left self.old ≡ take result buf.new ++ left self.new }
+        ensures room { result ≤ length buf.old }
         ensures end { result ≡ 0 ↔ left self.old ≡ [] }
     {
         let mut at = self.put_header(buf);

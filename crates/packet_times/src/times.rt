@@ -1,4 +1,4 @@
-ghost use Rattle.std.specs.Prelude.{◌≡◌, ◌+◌, ◌≤◌, ℕ, length, IfOk, OnOk, string_bytes};
+ghost use Rattle.std.specs.Prelude.{◌≡◌, ◌+◌, ◌≤◌, ℕ, length, IfOk, OnOk};
 ghost use Rattle.rotating_pick.specs.declared.limits.TheConstants.{MAX_PORTS};
 ghost use Rattle.eslip_rounds.specs.Schedulers.{Scheduler};
 ghost use Rattle.switch_plan.specs.GoodPlans.{SwitchPlan, IsGood, IsCountable, switch_plan_of};
@@ -9,7 +9,7 @@ ghost use Rattle.packet_times.specs.NotingSteps.{HasNoted};
 ghost use Rattle.packet_times.specs.KeptRows.{kept_ports};
 
 use crate::ends::{FlowEnds, no_ends, note_ends};
-use crate::fields::{MOST_ROW_BYTES, push_row, put_row};
+use crate::fields::{MOST_ROW_BYTES, put_row};
 use crate::inputs::{Input, inputs_of, note_inputs};
 use crate::walk::Walk;
 use crossbar::Post;
@@ -86,7 +86,7 @@ impl PacketTimes {
 
     /// How many bytes the packets file has, of a run of which so many slots were noted, and by whose end all packets have
     /// arrived. It makes one row at a time, and takes no memory; that the sum does not fit is the only error.
-    pub fn len(&self, _alloc: Global) -> Result<u64, OutOfMemory>
+    pub fn len(&self) -> Result<u64, OutOfMemory>
         ensures { (scheduler : Scheduler) (plan : SwitchPlan) (slots : ℕ) → HasNoted scheduler plan self.now slots → ArrivalsComeFirst plan slots
             → IfOk result (λ len. len ≡ length (packets_text_under scheduler plan slots)) }
     {
@@ -98,19 +98,6 @@ impl PacketTimes {
             len = len.checked_add(more).ok_or(OutOfMemory)?;
         }
         Ok(len)
-    }
-
-    /// The packets file of that run. Want of memory is the only error.
-    pub fn text(&self, alloc: Global) -> Result<String, OutOfMemory>
-        ensures { (scheduler : Scheduler) (plan : SwitchPlan) (slots : ℕ) → HasNoted scheduler plan self.now slots → ArrivalsComeFirst plan slots
-            → IfOk result (λ text. string_bytes text ≡ packets_text_under scheduler plan slots) }
-    {
-        let mut text = String::from_str(alloc, HEADER)?;
-        let mut walk = Walk::at(0);
-        while let Some(row) = self.next_row(&mut walk) {
-            push_row(&mut text, &row)?;
-        }
-        Ok(text)
     }
 }
 
