@@ -16,7 +16,8 @@ use Rattle.job_files.specs.declared.inputs.InputFile.TheVariants.{Capture}
 pub earlier_more : (r : ReadWords) (told : Option Contents) (port : ℕ) (bytes : List ℕ) → port < length r.inputs → IfSome told (EarlierFit r (Capture port))
     → IfSome told (λ c. c.file (get_or r.inputs port []) ≡ Some bytes) → length bytes ≤ capture_bytes r.long → IfSome told (EarlierFit r (Capture (port + 1)))
 earlier_more r None port bytes within earlier there fits = tt
-earlier_more r (Some c) port bytes within earlier there fits = (earlier.0, All-more (CaptureFits r.long c) r.inputs port [] within earlier.1 (bytes, there, fits))
+earlier_more r (Some c) port bytes within earlier there fits =
+    (earlier.0, All-more (CaptureFits r.long c) r.inputs port [] within earlier.1 (bytes, there, fits))
 
 there_more : (names : List (List ℕ)) (told : Option Contents) (i : ℕ) (captures : List (List ℕ)) (bytes : List ℕ) → i < length names
     → IfSome told (λ c. map (λ name. c.file name) (take i names) ≡ map (λ b. Some b) captures) → IfSome told (λ c. c.file (get_or names i []) ≡ Some bytes)

@@ -1,3 +1,4 @@
+pub mod Piecewise
 pub mod Printing
 pub mod InputFiles
 pub mod StoppingReads

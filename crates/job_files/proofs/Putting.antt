@@ -1,11 +1,12 @@
 -- The files that a run writes, one after the other.
 use Rattle.std.proofs.Common.{◌≡◌, ◌<◌, ◌+◌, ℕ, suc, List, [], ◌∷◌, ◌++◌, map, take, length, get_or, Option, Some, None, inl, inr, refl, sym, ◌∙◌}
-use Rattle.std.proofs.Common.{ap, subst, arith}
-use Rattle.std.specs.Prelude.{Result, Ok, Err, OnOk, is_err, is_ok, Bool, true, false, ◌&&◌, ◌==◌, if◌then◌else◌, option_map, string_bytes}
-use Rattle.std.proofs.lemmas.List.{get_or-map, length-map, map_push}
+use Rattle.std.proofs.Common.{ap, subst, arith, length-append}
+use Rattle.std.specs.Prelude.{Result, Ok, Err, OnErr, OnOk, is_err, is_ok, true, false, if◌then◌else◌, option_map, string_bytes}
+use Rattle.std.proofs.Math.Seq.{take-append_seam}
+use Rattle.std.proofs.lemmas.List.{get_or-map, get_or_append_left, length-map, map_push, take-append-le}
 use Rattle.std.proofs.lemmas.Bool.{cases_lt, le-ltb, lt-ltb}
 use Rattle.std.proofs.lemmas.Bool.Decides.{eqb_tells}
-use Rattle.std.proofs.lemmas.List.Sums.{fold_more}
+use Rattle.std.proofs.lemmas.List.Sums.{fold-append, fold_more}
 use Rattle.outside.specs.Contents.{Contents}
 use Rattle.outside.specs.Faults.{Place, NeverFall}
 use Rattle.outside.specs.WholeFiles.{NamedBytes, Puts, StopsAt, put_file}
@@ -15,7 +16,6 @@ use Rattle.outside.proofs.Effects.{option_map-option_map}
 use Rattle.job_files.specs.OutputFiles.{files_from, nameless, output_name, put_files, shown}
 use Rattle.job_files.specs.FileSteps.{StopsAtPlace, StopsPutting, written_at}
 use Rattle.job_files.specs.declared.output_files.OutputFile.{OutputFile}
-use Rattle.job_files.specs.declared.ending.Written.TheVariants.{Journal, Packets}
 use Rattle.job_files.proofs.Holding.{length-files_from}
 
 -- a call on one of the files failed
@@ -37,6 +37,11 @@ one_more_put files i (Some c) within = ap Some (sym (fold_more put_file c files 
 pub went_well : {T E P : Type 0} (r : Result T E) → is_err r ≡ false → OnOk r P → P
 went_well (Ok x) is holds = holds
 went_well (Err e) is holds = absurd (cc)
+
+-- and one that was refused
+pub went_wrong : {T E P : Type 0} (r : Result T E) → is_err r ≡ true → OnErr r P → P
+went_wrong (Ok x) is holds = absurd (cc)
+went_wrong (Err e) is holds = holds
 
 -- one file more is put
 pub put_more : {X T E : Type 0} (text : X → NamedBytes) (files : List X) (i : ℕ) (x : X) (r : Result T E) (b d : Place → ℕ) (o now new : Option Contents)
@@ -84,28 +89,66 @@ puts_of r f name bytes a d o new name_is bytes_is puts =
     subst (λ (n : List ℕ). Puts r (record { name = n; bytes = f.bytes }) a d o new) name_is
     (subst (λ (bs : List ℕ). Puts r (record { name = name; bytes = bs }) a d o new) bytes_is puts)
 
--- a call on a file after the report's was refused
-stops_later : (outputs : ℕ) (with_journal : Bool) (files : List NamedBytes) (text : List ℕ) (place : ℕ) (old told : Option Contents) (was now : Place → ℕ)
-    → outputs < place → StopsAtPlace files place old was now told
-    → StopsPutting outputs with_journal files text (if with_journal && (place == outputs + 1) then Journal else Packets) old was now told
-stops_later outputs false files text place old told was now after stops = (place, omega (arith, after), stops)
-stops_later outputs true files text place old told was now after stops = elim (eqb_tells place (outputs + 1)) [
-  | inl same ↦ rw same.0 (refl, subst (λ (n : ℕ). StopsAtPlace files n old was now told) same.1 stops)
-  | inr other ↦ let differs = other.1 in rw other.0 (place, omega (arith, after, differs), stops)
-]
+-- a call on one of the first files was refused
+stops_front : (first more : List NamedBytes) (place : ℕ) (old told : Option Contents) (was now : Place → ℕ) → place < length first
+    → StopsAt (get_or first place nameless) was now (option_map (put_files (take place first)) old) told
+    → StopsAtPlace (first ++ more) place old was now told
+stops_front first more place old told was now within stops =
+    let same = get_or_append_left first more nameless place within in
+    let before : take place (first ++ more) ≡ take place first = take-append-le place first more (omega arith) in
+    record {
+      within = omega (arith, within, length-append first more);
+      stops = subst (λ (f : NamedBytes). StopsAt f was now (option_map (put_files (take place (first ++ more))) old) told) (sym same)
+          (subst (λ (fs : List NamedBytes). StopsAt (get_or first place nameless) was now (option_map (put_files fs) old) told) (sym before) stops);
+    }
 
--- a call on the file at a place, after so many outputs, was refused
-pub stops_at_place : (outputs : ℕ) (with_journal : Bool) (files : List NamedBytes) (text : List ℕ) (place : ℕ)
-    → (old told : Option Contents) (was now : Place → ℕ) → place < length files
-    → StopsAt (get_or files place nameless) was now (option_map (put_files (take place files)) old) told
-    → StopsPutting outputs with_journal files text (written_at place outputs with_journal) old was now told
-stops_at_place outputs with_journal files text place old told was now within stops =
-    let at : StopsAtPlace files place old was now told = record { within = within; stops = stops } in
+-- a call on the file at a place before the packets file, after so many outputs, was refused
+pub stops_at_place : (outputs : ℕ) (first more : List NamedBytes) (text : List ℕ) (place : ℕ)
+    → (old told : Option Contents) (was now : Place → ℕ) → place < length first
+    → StopsAt (get_or first place nameless) was now (option_map (put_files (take place first)) old) told
+    → StopsPutting outputs (length first) (first ++ more) text (written_at place outputs) old was now told
+stops_at_place outputs first more text place old told was now within stops =
+    let at = stops_front first more place old told was now within stops in
     elim (cases_lt place outputs) [
       | inl before ↦ rw (lt-ltb place outputs before) (before, at)
       | inr after ↦ elim (eqb_tells place outputs) [
-        | inl same ↦ rw (le-ltb place outputs after, same.0) (subst (λ (n : ℕ). StopsAtPlace files n old was now told) same.1 at)
-        | inr other ↦ let differs = other.1 in
-            rw (le-ltb place outputs after, other.0) (stops_later outputs with_journal files text place old told was now (omega (arith, after, differs)) at)
+        | inl same ↦ rw (le-ltb place outputs after, same.0) (subst (λ (n : ℕ). StopsAtPlace (first ++ more) n old was now told) same.1 at)
+        | inr other ↦ let differs = other.1 in rw (le-ltb place outputs after, other.0) (place, omega (arith, after, differs), within, at)
       ]
     ]
+
+-- files put, and then more
+pub put_then : (first more : List NamedBytes) (o : Option Contents)
+    → option_map (put_files more) (option_map (put_files first) o) ≡ option_map (put_files (first ++ more)) o
+put_then first more None = refl
+put_then first more (Some c) = ap Some (sym (fold-append put_file c first more))
+
+none_put : (o : Option Contents) → option_map (put_files []) o ≡ o
+none_put None = refl
+none_put (Some c) = refl
+
+-- a call on one file alone was refused
+pub stops_alone : {T E : Type 0} (r : Result T E) (f : NamedBytes) (was now : Place → ℕ) (old told : Option Contents) → Puts r f was now old told
+    → OnErr r (StopsAtPlace (f ∷ []) 0 old was now told)
+stops_alone (Ok x) f was now old told puts = tt
+stops_alone (Err e) f was now old told puts =
+    record { within = omega arith; stops = subst (λ (o : Option Contents). StopsAt f was now o told) (sym (none_put old)) puts }
+
+after_first : (first more : List NamedBytes) → get_or (first ++ more) (length first) nameless ≡ get_or more 0 nameless
+after_first [] more = refl
+after_first (f ∷ first) more = after_first first more
+
+-- a call on the file after the first was refused, which were put
+pub stops_after : (first more : List NamedBytes) (a b d : Place → ℕ) (old mid told : Option Contents) → NeverFall a b
+    → mid ≡ option_map (put_files first) old → StopsAtPlace more 0 mid b d told → StopsAtPlace (first ++ more) (length first) old a d told
+stops_after first more a b d old mid told kept put stops =
+    let same = after_first first more in
+    let before = take-append_seam first more in
+    let from : option_map (put_files (take (length first) (first ++ more))) old ≡ option_map (put_files []) mid =
+    ap (λ fs. option_map (put_files fs) old) before ∙ sym put ∙ sym (none_put mid) in
+    record {
+      within = omega (arith, stops.within, length-append first more);
+      stops = subst (λ (f : NamedBytes). StopsAt f a d (option_map (put_files (take (length first) (first ++ more))) old) told) (sym same)
+          (subst (λ (o : Option Contents). StopsAt (get_or more 0 nameless) a d o told) (sym from)
+          (StopsAt-wider (get_or more 0 nameless) a b d d _ told kept (NeverFall-refl d) stops.stops));
+    }

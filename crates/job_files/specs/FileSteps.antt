@@ -1,6 +1,6 @@
 -- Why the reading or the writing of a job's files stops: the words of the calls inside.
-use Rattle.std.specs.Prelude.{◌≡◌, ◌<◌, ◌≤◌, ℕ, ◌+◌, ◌^◌, ◌==◌, ◌&&◌, nat_lt, if◌then◌else◌, Bool, true, List, take, length, map, All, Option, IfSome}
-use Rattle.std.specs.Prelude.{option_map, slice_index_or, string_bytes}
+use Rattle.std.specs.Prelude.{◌≡◌, ◌<◌, ◌≤◌, ℕ, ◌^◌, ◌==◌, nat_lt, if◌then◌else◌, List, [], ◌∷◌, ◌++◌, take, length, map, All, Option, None, Some}
+use Rattle.std.specs.Prelude.{IfSome, option_map, slice_index_or, string_bytes}
 use Rattle.rotating_pick.specs.declared.limits.TheConstants.{MAX_PORTS, MAX_FILE_BYTES}
 use Rattle.outside.specs.Contents.{Contents, append_out}
 use Rattle.outside.specs.Faults.{Place, ReadOf, ToOut, Rose}
@@ -8,8 +8,10 @@ use Rattle.outside.specs.WholeFiles.{NamedBytes, StopsAt}
 use Rattle.switch_words.specs.Limits.{IsUpTo}
 use Rattle.job_files.specs.Jobs.{ReadWords, input_name, IsInput}
 use Rattle.job_files.specs.Inputs.{EarlierFit, IsTooLongFor}
-use Rattle.job_files.specs.OutputFiles.{nameless, packets_place, put_files}
+use Rattle.job_files.specs.OutputFiles.{files_from, journal_files, nameless, put_files, report_name, shown}
 use Rattle.job_files.specs.declared.inputs.Reads.{Reads}
+use Rattle.job_files.specs.declared.output_files.JobTexts.{JobTexts}
+use Rattle.job_files.specs.declared.pieces.PiecedFile.{PiecedFile}
 use Rattle.job_files.specs.declared.ending.Written.{Written}
 use Rattle.job_files.specs.declared.ending.Written.TheVariants.{Output, Report, Journal, Packets, StandardOutput}
 use Rattle.job_files.specs.declared.ending.Ending.{Ending}
@@ -33,10 +35,22 @@ StopsReading r old was now (TooLong input) = IsInput r input × IfSome old (Earl
 StopsReading r old was now OutOfMemory = Unit {0}
 StopsReading r old was now _ = ⊥
 
--- what is written at a place, after so many outputs, with or without a journal
-abbrev pub written_at : ℕ → ℕ → Bool → Written
-written_at place outputs with_journal =
-    if nat_lt place outputs then Output place else (if place == outputs then Report else (if with_journal && (place == outputs + 1) then Journal else Packets))
+-- the files of a run before its packets file, in order
+abbrev pub files_before : List ℕ → List (List ℕ) → List ℕ → Option (List ℕ) → List NamedBytes
+files_before prefix outputs report journal = files_from prefix 0 outputs ++ record { name = report_name prefix; bytes = report } ∷ journal_files prefix journal
+
+-- the file that is written piece by piece, where there is one
+abbrev pub pieced : {P : Type 0} → (P → List ℕ) → Option (PiecedFile P) → List NamedBytes
+pieced left None = []
+pieced left (Some file) = record { name = string_bytes file.name; bytes = left file.pieces } ∷ []
+
+-- the files that a job writes, in order
+abbrev pub all_shown : {P : Type 0} → (P → List ℕ) → JobTexts P → List NamedBytes
+all_shown left texts = map shown texts.files.items ++ pieced left texts.packets
+
+-- what is written at a place among the files before the packets file, after so many outputs
+abbrev pub written_at : ℕ → ℕ → Written
+written_at place outputs = if nat_lt place outputs then Output place else (if place == outputs then Report else Journal)
 
 -- a call on the file of this place was refused: those before it are whole
 pub record StopsAtPlace (files : List NamedBytes) (place : ℕ) (old : Option Contents) (was now : Place → ℕ) (told : Option Contents) : Type 0 where
@@ -49,12 +63,12 @@ pub record StopsAtEnd (files : List NamedBytes) (text : List ℕ) (old : Option 
   pub given : ℕ
   pub told_is : told ≡ option_map (λ c. append_out (take given text) (put_files files c)) old
 
--- A call on one of the files, of which so many are those of outputs, or on standard output was refused. No file stands
--- after the packets file.
-abbrev pub StopsPutting : ℕ → Bool → List NamedBytes → List ℕ → Written → Option Contents → (Place → ℕ) → (Place → ℕ) → Option Contents → Type 0
-StopsPutting outputs with_journal files text (Output port) old was now told = (port < outputs) × StopsAtPlace files port old was now told
-StopsPutting outputs with_journal files text Report old was now told = StopsAtPlace files outputs old was now told
-StopsPutting outputs with_journal files text Journal old was now told = (with_journal ≡ true) × StopsAtPlace files (outputs + 1) old was now told
-StopsPutting outputs with_journal files text Packets old was now told =
-    (place : ℕ) × (packets_place outputs with_journal ≤ place) × StopsAtPlace files place old was now told
-StopsPutting outputs with_journal files text StandardOutput old was now told = StopsAtEnd files text old was now told
+-- A call on one of the files was refused, of which so many are those of outputs and so many come before the packets file, or one on
+-- standard output.
+abbrev pub StopsPutting : ℕ → ℕ → List NamedBytes → List ℕ → Written → Option Contents → (Place → ℕ) → (Place → ℕ) → Option Contents → Type 0
+StopsPutting outputs before files text (Output port) old was now told = (port < outputs) × StopsAtPlace files port old was now told
+StopsPutting outputs before files text Report old was now told = StopsAtPlace files outputs old was now told
+StopsPutting outputs before files text Journal old was now told =
+    (place : ℕ) × (outputs < place) × (place < before) × StopsAtPlace files place old was now told
+StopsPutting outputs before files text Packets old was now told = StopsAtPlace files before old was now told
+StopsPutting outputs before files text StandardOutput old was now told = StopsAtEnd files text old was now told

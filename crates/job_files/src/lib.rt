@@ -6,6 +6,7 @@ mod error_lines;
 mod inputs;
 mod limits;
 mod output_files;
+mod pieces;
 
 pub use ending::{Ending, Written};
 pub use error_lines::{print_line, print_memory, print_usage};
@@ -13,4 +14,5 @@ pub use inputs::{
     InputFile, Inputs, Reads, input_name, made_inputs, read_inputs, reads_of_firm, reads_of_run,
 };
 pub use limits::{MAX_LONG_CAPTURE, limits_are};
-pub use output_files::{JobTexts, OutputFile, put_texts, run_files};
+pub use output_files::{JobTexts, OutputFile, packets_file, put_texts, run_files};
+pub use pieces::{PiecedFile, Pieces};

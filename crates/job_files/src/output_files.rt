@@ -1,14 +1,15 @@
-ghost use Rattle.std.specs.Prelude.{◌≡◌, ◌≤◌, ◌<◌, ◌+◌, ◌∷◌, ◌++◌, [], length, map, slice_index_or, string_bytes, take, IfErr, IfOk, OnOk};
+ghost use Rattle.std.specs.Prelude.{◌≡◌, ◌≤◌, ◌<◌, ◌+◌, length, map, slice_index_or, string_bytes, take, IfErr, IfOk, OnErr, OnOk};
 ghost use Rattle.std.specs.Option.{option_map};
 ghost use Rattle.outside.specs.Contents.{append_out};
 ghost use Rattle.outside.specs.Faults.{NeverFall, NoneRose, OnlyRose, of_writes};
 ghost use Rattle.outside.specs.WholeFiles.{Puts, StopsAt};
 ghost use Rattle.switch_plan.specs.ReadingSteps.{bytes_of_files};
-ghost use Rattle.job_files.specs.FileSteps.{StopsPutting, written_at};
-ghost use Rattle.job_files.specs.OutputFiles.{files_from, files_in_order, journal_name, nameless, packets_name, put_files, report_name, shown};
+ghost use Rattle.job_files.specs.FileSteps.{StopsAtPlace, StopsPutting, all_shown, files_before, pieced, written_at};
+ghost use Rattle.job_files.specs.OutputFiles.{files_from, journal_name, nameless, packets_files, put_files, report_name, shown};
 
 use crate::ending::Written;
-use outside::{Failed, Files, put_out, put_whole};
+use crate::pieces::{PiecedFile, Pieces, put_pieces};
+use outside::{Failed, Files, put_out, put_whole, read_buffer};
 use rotating_pick::MAX_PORTS;
 use std::alloc::{AllocError, Global};
 
@@ -21,14 +22,14 @@ pub struct OutputFile {
 
 /// What a job writes.
 #[derive(Drop)]
-pub struct JobTexts {
-    /// How many of the files are captures of outputs. They are the first; then come the report's and, where they are
-    /// wanted, the journal's and the packets file.
+pub struct JobTexts<P> {
+    /// How many of the files are captures of outputs. They are the first; then come the report's and, where it is wanted,
+    /// the journal's.
     pub outputs: usize,
-    /// Whether the journal's file is among them.
-    pub with_journal: bool,
-    /// The files, in order.
+    /// The files before the packets file, in order.
     pub files: Vec<OutputFile>,
+    /// The packets file, where it is wanted.
+    pub packets: Option<PiecedFile<P>>,
     /// What standard output is given after them.
     pub summary: String,
 }
@@ -65,38 +66,39 @@ fn journal_file(alloc: Global, prefix: &str, bytes: Vec<u8>) -> Result<OutputFil
     Ok(OutputFile { name, bytes })
 }
 
-// The packets file, `PREFIX.packets.csv`.
-fn packets_file(alloc: Global, prefix: &str, packets: String) -> Result<OutputFile, AllocError>
-    ensures { IfOk result (λ file. shown file ≡ record { name = packets_name prefix.now; bytes = string_bytes packets }) }
+/// The packets file where there is one, `PREFIX.packets.csv`, with room for a piece of 65,536 bytes. The only error is want of
+/// memory.
+pub fn packets_file<P: Pieces + Drop>(
+    alloc: Global,
+    prefix: &str,
+    pieces: Option<P>,
+) -> Result<Option<PiecedFile<P>>, AllocError>
+    ensures { IfOk result (λ file. pieced P.left file ≡ packets_files prefix.now (option_map P.left pieces)) }
 {
+    let Some(pieces) = pieces else {
+        return Ok(None);
+    };
     let name = format!(in alloc; "{prefix}.packets.csv")?;
-    Ok(OutputFile {
-        name,
-        bytes: packets.into_bytes(),
-    })
+    let room = read_buffer(alloc)?;
+    Ok(Some(PiecedFile { name, pieces, room }))
 }
 
-/// The files of a run, in order: the captures of the outputs, `PREFIX.j.pcap`, the report, `PREFIX.report`, the journal
-/// where there is one, `PREFIX.journal`, and the packets file where there is one, `PREFIX.packets.csv`. The only error
-/// is want of memory.
+/// The files of a run before its packets file, in order: the captures of the outputs, `PREFIX.j.pcap`, the report,
+/// `PREFIX.report`, and the journal where there is one, `PREFIX.journal`. The only error is want of memory.
 pub fn run_files(
     alloc: Global,
     prefix: &str,
     captures: Vec<Vec<u8>>,
     report: String,
     journal: Option<Vec<u8>>,
-    packets: Option<String>,
 ) -> Result<Vec<OutputFile>, AllocError>
     ensures { IfOk result (λ files. map shown files.items
-        ≡ files_in_order prefix.now (bytes_of_files captures) (string_bytes report) (option_map (λ b. b.items) journal) (option_map string_bytes packets)) }
+        ≡ files_before prefix.now (bytes_of_files captures) (string_bytes report) (option_map (λ b. b.items) journal)) }
 {
     let mut files = named(alloc, prefix, captures)?;
     files.push(report_file(alloc, prefix, report)?)?;
     if let Some(bytes) = journal {
         files.push(journal_file(alloc, prefix, bytes)?)?;
-    }
-    if let Some(packets) = packets {
-        files.push(packets_file(alloc, prefix, packets)?)?;
     }
     Ok(files)
 }
@@ -130,36 +132,57 @@ fn put_all<F: Files>(files: &mut F, output_files: &[OutputFile]) -> Result<(), u
     Ok(())
 }
 
-// What is written at a place, after so many outputs, with or without a journal.
-fn written_at(place: u32, outputs: usize, with_journal: bool) -> Written
-    ensures { result ≡ written_at place outputs with_journal }
+// Begins and writes the packets file, where there is one.
+fn put_packets<F: Files, P: Pieces>(
+    files: &mut F,
+    packets: &mut Option<PiecedFile<P>>,
+) -> Result<(), Failed>
+    ensures ok { OnOk result (F.told files.new ≡ option_map (put_files (pieced P.left packets.old)) (F.told files.old)) }
+    ensures err { OnErr result (StopsAtPlace (pieced P.left packets.old) 0 (F.told files.old) (F.faults files.old) (F.faults files.new) (F.told files.new)) }
+    ensures no_fault { OnOk result (NoneRose (F.faults files.old) (F.faults files.new)) }
+    ensures no_others { OnlyRose of_writes (F.faults files.old) (F.faults files.new) }
+    ensures never_fall { NeverFall (F.faults files.old) (F.faults files.new) }
+{
+    match packets {
+        Some(file) => {
+            let room = file.room.as_mut_slice();
+            put_pieces(files, file.name.as_str(), &mut file.pieces, room)
+        }
+        None => Ok(()),
+    }
+}
+
+// What is written at a place among the files before the packets file, after so many outputs.
+fn written_at(place: u32, outputs: usize) -> Written
+    ensures { result ≡ written_at place outputs }
 {
     let place_among_files = place as usize;
     if place_among_files < outputs {
         Written::Output(place)
     } else if place_among_files == outputs {
         Written::Report
-    } else if with_journal && place_among_files == outputs + 1 {
-        Written::Journal
     } else {
-        Written::Packets
+        Written::Journal
     }
 }
 
 /// Writes the files, one after the other, and then gives the summary to standard output; else what was being
 /// written when a call failed. It takes no memory.
-pub fn put_texts<F: Files>(files: &mut F, texts: &JobTexts) -> Result<(), Written>
-    requires { length texts.now.files.items ≤ MAX_PORTS + 3 }
+pub fn put_texts<F: Files, P: Pieces>(files: &mut F, texts: &mut JobTexts<P>) -> Result<(), Written>
+    requires { length texts.old.files.items ≤ MAX_PORTS + 3 }
     ensures ok { OnOk result (F.told files.new
-        ≡ option_map (λ c. append_out (string_bytes texts.now.summary) (put_files (map shown texts.now.files.items) c)) (F.told files.old)) }
-    ensures err { IfErr result (λ written. StopsPutting texts.now.outputs texts.now.with_journal (map shown texts.now.files.items)
-        (string_bytes texts.now.summary) written (F.told files.old) (F.faults files.old) (F.faults files.new) (F.told files.new)) }
+        ≡ option_map (λ c. append_out (string_bytes texts.old.summary) (put_files (all_shown P.left texts.old) c)) (F.told files.old)) }
+    ensures err { IfErr result (λ written. StopsPutting texts.old.outputs (length texts.old.files.items) (all_shown P.left texts.old)
+        (string_bytes texts.old.summary) written (F.told files.old) (F.faults files.old) (F.faults files.new) (F.told files.new)) }
     ensures no_fault { OnOk result (NoneRose (F.faults files.old) (F.faults files.new)) }
     ensures no_others { OnlyRose of_writes (F.faults files.old) (F.faults files.new) }
     ensures never_fall { NeverFall (F.faults files.old) (F.faults files.new) }
 {
     if let Err(place) = put_all(files, texts.files.as_slice()) {
-        return Err(written_at(place, texts.outputs, texts.with_journal));
+        return Err(written_at(place, texts.outputs));
+    }
+    if put_packets(files, &mut texts.packets).is_err() {
+        return Err(Written::Packets);
     }
     match put_out(files, texts.summary.as_str().as_bytes()) {
         Ok(()) => Ok(()),

@@ -1,21 +1,44 @@
-use Rattle.std.proofs.Common.{◌<◌, length, map, string_bytes, arith, ap}
+use Rattle.std.proofs.Common.{◌≡◌, ◌<◌, ◌++◌, ◌∙◌, ℕ, List, length, map, string_bytes, subst, sym, arith, ap}
 use Rattle.std.proofs.lemmas.List.{length-map}
-use Rattle.job_files.specs.OutputFiles.{shown}
-use Rattle.job_files.proofs.Putting.{stops_at_place}
+use Rattle.job_files.specs.FileSteps.{StopsAtPlace, StopsPutting, pieced, written_at}
+use Rattle.std.specs.Prelude.{option_map}
+use Rattle.job_files.specs.OutputFiles.{put_files, shown}
+use Rattle.job_files.specs.declared.output_files.OutputFile.{OutputFile}
+use Rattle.job_files.proofs.Putting.{stops_after, stops_at_place, went_wrong}
 use Rattle.job_files.proofs.output_files.put_texts.Goals as goal
 
 pub returns-in-Err-clause-err : goal.returns-in-Err-clause-err
 returns-in-Err-clause-err g c =
-    let items = c.args.texts.now.files.items in
-    let same = c.as_slice.ensures.value in
-    let files = map shown items in
-    let stops = rw same at c.in-Err.ensures.err in
-    let within : c.in-Err.place < length files = omega (arith, c.in-Err.ensures.place, ap length same, length-map items shown) in
-    let texts = c.args.texts.now in
-    let contents = g.F.Files.told in
+    let told = g.F.Files.told in
     let counts = g.F.Files.faults in
+    let texts = c.args.texts.now in
+    let items = texts.files.items in
+    let same = c.as_slice.ensures.value in
+    let first = map shown items in
+    let more = pieced g.P.Pieces.left texts.packets in
+    let stops = rw same at c.in-Err.ensures.err in
+    let place = c.in-Err.place in
+    let within : place < length first = omega (arith, c.in-Err.ensures.place, ap length same, length-map items shown) in
     let old = c.args.files.now in
     let new = c.put_all.new.files in
+    let summary = string_bytes texts.summary in
     rw c.written_at.ensures
-    (stops_at_place texts.outputs texts.with_journal files (string_bytes texts.summary) c.in-Err.place (contents old) (contents new) (counts old)
-    (counts new) within stops)
+    (subst (λ (n : ℕ). StopsPutting texts.outputs n (first ++ more) summary (written_at place texts.outputs) (told old) (counts old) (counts new) (told new))
+    (length-map items shown) (stops_at_place texts.outputs first more summary place (told old) (told new) (counts old) (counts new) within stops))
+
+pub returns-then-is_err-clause-err : goal.returns-then-is_err-clause-err
+returns-then-is_err-clause-err g c =
+    let told = g.F.Files.told in
+    let counts = g.F.Files.faults in
+    let texts = c.args.texts.now in
+    let items = texts.files.items in
+    let first = map shown items in
+    let more = pieced g.P.Pieces.left texts.packets in
+    let old = c.args.files.now in
+    let mid = c.put_all.new.files in
+    let new = c.put_packets.new.files in
+    let stops = went_wrong c.put_packets.result (sym c.is_err.ensures.value ∙ c.if-is_err.true) c.put_packets.ensures.err in
+    let put : told mid ≡ option_map (put_files first) (told old) =
+    c.in_default.ensures.ok ∙ ap (λ (files : List OutputFile). option_map (put_files (map shown files)) (told old)) c.as_slice.ensures.value in
+    subst (λ (n : ℕ). StopsAtPlace (first ++ more) n (told old) (counts old) (counts new) (told new)) (length-map items shown)
+    (stops_after first more (counts old) (counts mid) (counts new) (told old) (told mid) (told new) c.in_default.ensures.never_fall put stops)
