@@ -13,7 +13,7 @@ use Rattle.card_core.specs.Plans.{kind_of, queue_of}
 use Rattle.packet_times.specs.declared.going.TheConstants.{MOST_FLOWS}
 use Rattle.packet_times.specs.Rows.{outputs_in}
 use Rattle.packet_times.specs.WalkingSteps.{own_place, one_more, with_one, IsCounted}
-use Rattle.packet_times.specs.KeptRows.{counts_with}
+use Rattle.packet_times.specs.KeptSteps.{counts_with}
 use Rattle.packet_times.proofs.Places.{kind_few}
 use Rattle.packet_times.proofs.Rowing.{outputs-yes, outputs-no}
 

@@ -19,8 +19,8 @@ use Rattle.packet_times.specs.declared.state.PacketState.TheVariants.{Forwarded,
 use Rattle.packet_times.specs.NotingSteps.{Input, Times, no_input, flow_place, was_admitted, HasNoted}
 use Rattle.packet_times.specs.Rows.{row_text, header, outputs_in, aside_row, state_of, packet_rows, all_rows, packets_text_under}
 use Rattle.packet_times.specs.WalkingSteps.{own_place, row_to, HasGone}
-use Rattle.packet_times.specs.KeptRows.{kept_state, is_flow, kept_departure, kept_row, kept_rows, counts_after, counts_with, rows_from, input_rows}
-use Rattle.packet_times.specs.KeptRows.{walk_at, rows_left}
+use Rattle.packet_times.specs.KeptSteps.{kept_state, is_flow, kept_departure, kept_row, kept_rows, counts_after, counts_with, rows_from, input_rows}
+use Rattle.packet_times.specs.KeptSteps.{walk_at, rows_left}
 use Rattle.packet_times.proofs.Counted.{counted-all}
 use Rattle.packet_times.proofs.Rowing.{outputs-within, map-outputs, row-is}
 use Rattle.packet_times.proofs.Walked.{gone-first, gone-more, gone-same, ports-kept, planned-is, admitted-is, departure-is}

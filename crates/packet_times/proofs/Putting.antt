@@ -5,7 +5,7 @@ use Rattle.std.specs.List.{flat_map}
 use Rattle.std.proofs.lemmas.List.{append-nil, take_more}
 use Rattle.std.proofs.lemmas.List.Concat.{flat_map-append}
 use Rattle.packet_times.specs.Rows.{row_text, header}
-use Rattle.packet_times.specs.KeptRows.{Pieces, left, rows_left}
+use Rattle.packet_times.specs.KeptSteps.{Pieces, left, rows_left}
 use Rattle.packet_times.specs.PuttingSteps.{IsPut}
 
 -- no bytes

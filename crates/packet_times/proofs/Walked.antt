@@ -26,7 +26,7 @@ use Rattle.packet_departures.specs.Departures.{Flow, flow_of, ends_of, goes_by, 
 use Rattle.packet_times.specs.declared.going.TheConstants.{MOST_FLOWS}
 use Rattle.packet_times.specs.NotingSteps.{Times, no_input, IsFlow, flow_place, was_admitted, HasNoted}
 use Rattle.packet_times.specs.WalkingSteps.{own_place, one_more, IsCounted, HasGone}
-use Rattle.packet_times.specs.KeptRows.{kept_ports}
+use Rattle.packet_times.specs.KeptSteps.{kept_ports}
 use Rattle.packet_times.proofs.Places.{kind_few, kind_same}
 use Rattle.packet_times.proofs.Told.{admitted-at}
 

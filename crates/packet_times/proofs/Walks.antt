@@ -15,8 +15,8 @@ use Rattle.packet_times.specs.declared.walk.Outcome.{Outcome}
 use Rattle.packet_times.specs.declared.walk.Walk.{Walk}
 use Rattle.packet_times.specs.NotingSteps.{Input, Times, no_input}
 use Rattle.packet_times.specs.Rows.{outputs_in, aside_row}
-use Rattle.packet_times.specs.KeptRows.{kept_state, kept_row, kept_rows, counts_after, begun, rows_from, rows_of, input_rows}
-use Rattle.packet_times.specs.KeptRows.{walk_at, kept_outcome, passed, rows_left}
+use Rattle.packet_times.specs.KeptSteps.{kept_state, kept_row, kept_rows, counts_after, begun, rows_from, rows_of, input_rows}
+use Rattle.packet_times.specs.KeptSteps.{walk_at, kept_outcome, passed, rows_left}
 use Rattle.packet_times.proofs.Rowing.{outputs-next, no-outputs}
 
 -- what is left of a list from an element on

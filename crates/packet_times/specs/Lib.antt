@@ -4,5 +4,5 @@ pub mod NotingSteps
 pub mod Steps
 pub mod FieldSteps
 pub mod WalkingSteps
-pub mod KeptRows
+pub mod KeptSteps
 pub mod PuttingSteps

@@ -1,7 +1,7 @@
 ghost use Rattle.std.specs.Prelude.{◌≡◌, ◌<◌, slice_index};
 ghost use Rattle.rotating_pick.specs.declared.limits.TheConstants.{MAX_PORTS};
 ghost use Rattle.packet_times.specs.WalkingSteps.{own_place, with_one};
-ghost use Rattle.packet_times.specs.KeptRows.{counts_with};
+ghost use Rattle.packet_times.specs.KeptSteps.{counts_with};
 
 use crate::rows::kind_of;
 use card_core::Planned;

@@ -4,7 +4,7 @@ ghost use Rattle.switch_plan.specs.GoodPlans.{SwitchPlan};
 ghost use Rattle.run_laws.specs.Promises.{ArrivalsComeFirst};
 ghost use Rattle.packet_times.specs.Rows.{packets_text_under};
 ghost use Rattle.packet_times.specs.NotingSteps.{HasNoted};
-ghost use Rattle.packet_times.specs.KeptRows.{left};
+ghost use Rattle.packet_times.specs.KeptSteps.{left};
 
 use crate::fields::{MOST_ROW_BYTES, put_bytes, put_row};
 use crate::times::{HEADER, PacketTimes};
@@ -21,7 +21,7 @@ pub struct PacketRows {
 }
 
 impl Model for PacketRows {
-    ghost use Rattle.packet_times.specs.KeptRows.{Pieces};
+    ghost use Rattle.packet_times.specs.KeptSteps.{Pieces};
 
     ghost Value = { Pieces };
 

@@ -3,7 +3,7 @@ ghost use Rattle.cell_cutter.specs.Messages.{cells_of_packet};
 ghost use Rattle.card_core.specs.Plans.{queue_of, queue_for, kind_of as queue_kind};
 ghost use Rattle.packet_times.specs.Rows.{departure_text, delay_text, routed_row, aside_row};
 ghost use Rattle.packet_times.specs.FieldSteps.{field_text};
-ghost use Rattle.packet_times.specs.KeptRows.{kept_state};
+ghost use Rattle.packet_times.specs.KeptSteps.{kept_state};
 
 use crate::fields::{FIELDS, Field};
 use crate::state::PacketState;

@@ -6,7 +6,7 @@ ghost use Rattle.run_laws.specs.Runs.{IsSlotUnder};
 ghost use Rattle.run_laws.specs.Promises.{ArrivalsComeFirst};
 ghost use Rattle.packet_times.specs.Rows.{packets_text_under};
 ghost use Rattle.packet_times.specs.NotingSteps.{HasNoted};
-ghost use Rattle.packet_times.specs.KeptRows.{kept_ports};
+ghost use Rattle.packet_times.specs.KeptSteps.{kept_ports};
 
 use crate::ends::{FlowEnds, no_ends, note_ends};
 use crate::fields::{MOST_ROW_BYTES, put_row};

@@ -3,7 +3,7 @@ ghost use Rattle.rotating_pick.specs.declared.limits.TheConstants.{LEVELS, MAX_P
 ghost use Rattle.packet_times.specs.NotingSteps.{no_input};
 ghost use Rattle.packet_times.specs.Rows.{aside_row};
 ghost use Rattle.packet_times.specs.FieldSteps.{texts_of};
-ghost use Rattle.packet_times.specs.KeptRows.{is_flow, begun, kept_departure, kept_state, kept_row, walk_at, kept_outcome, passed, rows_left};
+ghost use Rattle.packet_times.specs.KeptSteps.{is_flow, begun, kept_departure, kept_state, kept_row, walk_at, kept_outcome, passed, rows_left};
 
 use crate::ends::place_of_flow;
 use crate::fields::Row;

@@ -5,7 +5,7 @@ use Rattle.rotating_pick.specs.declared.limits.TheConstants.{MAX_PORTS}
 use Rattle.card_core.specs.Plans.{kind_of, queue_of}
 use Rattle.packet_times.specs.Rows.{outputs_in}
 use Rattle.packet_times.specs.WalkingSteps.{own_place, with_one}
-use Rattle.packet_times.specs.KeptRows.{counts_with}
+use Rattle.packet_times.specs.KeptSteps.{counts_with}
 use Rattle.packet_times.proofs.going.count_packet.Given as goal
 
 abbrev pub invariant-loop-output : goal.invariant-loop-output

@@ -1,7 +1,7 @@
 use Rattle.std.proofs.Common.{◌∙◌, ◌++◌, ℕ, List, length, take, sym, ap, arith}
 use Rattle.std.specs.List.{flat_map}
 use Rattle.packet_times.specs.Rows.{row_text}
-use Rattle.packet_times.specs.KeptRows.{Pieces, rows_left}
+use Rattle.packet_times.specs.KeptSteps.{Pieces, rows_left}
 use Rattle.packet_times.specs.contracts.pieces.PacketRows.{the_view}
 use Rattle.packet_times.proofs.Putting.{left-rows, put-ends}
 use Rattle.packet_times.proofs.Texts.{row-more}

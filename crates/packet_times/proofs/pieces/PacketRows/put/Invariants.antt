@@ -1,7 +1,7 @@
 use Rattle.std.proofs.Common.{◌≡◌, ◌≤◌, ◌++◌, true, length, take}
 use Rattle.std.specs.List.{flat_map}
 use Rattle.packet_times.specs.Rows.{row_text}
-use Rattle.packet_times.specs.KeptRows.{rows_left, left}
+use Rattle.packet_times.specs.KeptSteps.{rows_left, left}
 use Rattle.packet_times.specs.contracts.pieces.PacketRows.{the_view}
 use Rattle.packet_times.proofs.pieces.PacketRows.put.Given as goal
 

@@ -2,7 +2,7 @@ use Rattle.std.proofs.Common.{◌≡◌, ◌∙◌, ◌<◌, ◌≤◌, List, le
 use Rattle.std.proofs.lemmas.List.{get_or_default}
 use Rattle.packet_times.specs.declared.walk.Walk.{Walk}
 use Rattle.packet_times.specs.NotingSteps.{Input, Times, no_input}
-use Rattle.packet_times.specs.KeptRows.{rows_left}
+use Rattle.packet_times.specs.KeptSteps.{rows_left}
 use Rattle.packet_times.proofs.Walks.{input-next}
 use Rattle.packet_times.proofs.times.PacketTimes.go_on.Goals as goal
 

@@ -1,5 +1,5 @@
 use Rattle.std.proofs.Common.{◌≡◌, ◌-◌, length}
-use Rattle.packet_times.specs.KeptRows.{rows_left}
+use Rattle.packet_times.specs.KeptSteps.{rows_left}
 use Rattle.packet_times.proofs.times.PacketTimes.go_on.Given as goal
 
 abbrev pub invariant-loop-walk : goal.invariant-loop-walk

@@ -2,7 +2,7 @@ use Rattle.std.proofs.Common.{◌∙◌, ◌++◌, ap}
 use Rattle.std.specs.List.{flat_map}
 use Rattle.packet_times.specs.declared.walk.Walk.{Walk}
 use Rattle.packet_times.specs.Rows.{row_text, header}
-use Rattle.packet_times.specs.KeptRows.{rows_left}
+use Rattle.packet_times.specs.KeptSteps.{rows_left}
 use Rattle.packet_times.proofs.KeptTexts.{text-same}
 use Rattle.packet_times.proofs.times.PacketTimes.into_rows.Goals as goal
 

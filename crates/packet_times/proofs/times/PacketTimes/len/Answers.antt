@@ -2,7 +2,7 @@ use Rattle.std.proofs.Common.{◌≡◌, ◌∙◌, ◌+◌, ℕ, List, length, 
 use Rattle.std.specs.List.{flat_map}
 use Rattle.packet_times.specs.declared.walk.Walk.{Walk}
 use Rattle.packet_times.specs.Rows.{row_text, header}
-use Rattle.packet_times.specs.KeptRows.{walk_at, rows_left}
+use Rattle.packet_times.specs.KeptSteps.{walk_at, rows_left}
 use Rattle.packet_times.proofs.KeptTexts.{text-same}
 use Rattle.packet_times.proofs.Texts.{sum-is, row-counted}
 use Rattle.packet_times.proofs.times.PacketTimes.len.Goals as goal

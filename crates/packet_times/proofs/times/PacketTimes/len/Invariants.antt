@@ -1,7 +1,7 @@
 use Rattle.std.proofs.Common.{◌≡◌, ◌+◌, ◌++◌, length}
 use Rattle.std.specs.List.{flat_map}
 use Rattle.packet_times.specs.Rows.{row_text, header}
-use Rattle.packet_times.specs.KeptRows.{walk_at, rows_left}
+use Rattle.packet_times.specs.KeptSteps.{walk_at, rows_left}
 use Rattle.packet_times.proofs.times.PacketTimes.len.Given as goal
 
 abbrev pub invariant-loop-row : goal.invariant-loop-row

@@ -2,7 +2,7 @@ use Rattle.std.proofs.Common.{◌∙◌, ◌∷◌, ℕ, List, refl, sym, ap, ar
 use Rattle.rotating_pick.proofs.Bits.{Has-lt}
 use Rattle.packet_times.specs.declared.walk.Walk.{Walk}
 use Rattle.packet_times.specs.FieldSteps.{texts_of}
-use Rattle.packet_times.specs.KeptRows.{passed, rows_left}
+use Rattle.packet_times.specs.KeptSteps.{passed, rows_left}
 use Rattle.packet_times.proofs.Walks.{aside-next, routed-next, none-next}
 use Rattle.packet_times.proofs.times.PacketTimes.next_row.Goals as goal
 
