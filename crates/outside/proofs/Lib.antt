@@ -5,4 +5,7 @@ pub mod Finding
 pub mod Fronts
 pub mod Given
 pub mod Putting
+pub mod Seeing
+pub mod Staying
 pub mod Storing
+mod Walks

@@ -1,6 +1,6 @@
 -- What is told of the outside, and what each call makes of it.
-use Rattle.std.specs.Prelude.{◌≡◌, ◌<◌, ◌≤◌, ◌↔◌, ℕ, Bool, ◌||◌, List, [], ◌++◌, take, drop, length, Option, Some, Result, Ok, Err, option_map}
-use Rattle.std.specs.Prelude.{bytes_eq, if◌then◌else◌}
+use Rattle.std.specs.Prelude.{◌≡◌, ◌<◌, ◌≤◌, ◌↔◌, ℕ, Bool, ◌||◌, List, [], ◌++◌, take, drop, length, Option, None, Some, Result, Ok, Err, option_map}
+use Rattle.std.specs.Prelude.{IfSome, bytes_eq, if◌then◌else◌}
 
 -- The bytes of each file that is there, by its name; the names that were begun; and all bytes that standard output and standard error were given.
 pub record Contents : Type 0 where
@@ -63,3 +63,12 @@ pub record GivesPiece (file : Option (List ℕ)) (at room : ℕ) (buf : List ℕ
   pub within : k ≤ length (drop at bytes)
   pub same : take k buf ≡ take k (drop at bytes)
   pub end : 0 < room → (k ≡ 0) ↔ (length bytes ≤ at)
+
+-- what was told stays, or is told no more
+abbrev pub Stays : Option Contents → Option Contents → Type 0
+Stays before after = IfSome after (λ c. before ≡ Some c)
+
+-- what was told before, where it is told still
+abbrev pub held : Option Contents → Option Contents → Option Contents
+held before None = None
+held before (Some c) = before

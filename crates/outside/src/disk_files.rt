@@ -1,22 +1,29 @@
-ghost use Rattle.std.specs.Prelude.{◌≡◌, ◌≤◌, None, length, IfOk};
+ghost use Rattle.std.specs.Prelude.{◌≡◌, ◌≤◌, ◌<◌, [], None, take, length, IfOk};
 ghost use Rattle.outside.specs.Calls.{counts_of_kinds, no_calls, one_more};
+ghost use Rattle.outside.specs.Events.{Gave, Began, Took, noted_if, seen};
 
+use crate::call_log::CallLog;
 use crate::files::{Failed, Files};
 use crate::memory_files::{Call, CallCounts};
+use crate::noted_calls;
 use crate::standard_error::StandardError;
 use std::fs::OpenOptions;
-use std::io::{Read, Seek, SeekFrom, Write};
+use std::io::{Seek, SeekFrom};
 use std::marker::Model;
-use std::{fs, io, rt};
+use std::{fs, rt};
 
-/// The files of the system, standard output and standard error. Nothing is told of what they hold,
-/// and for each kind of call one count stands for the faults of all names: after 2^64 - 1 of them it stays.
+/// The files of the system, standard output and standard error. For each kind of call one count stands for the
+/// faults of all names: after 2^64 - 1 of them it stays.
+///
+/// Nothing is told of what they hold. What is seen is what the calls of this process gave and took, over
+/// whatever contents they had at the first.
 ///
 /// The file that is read and the file that is written are left open from one piece to the next.
 #[derive(Drop)]
 pub struct DiskFiles<'r, R: rt::Files + Print + StandardError + AllocGlobal> {
     rt: &'r R,
     faults: CallCounts,
+    log: CallLog,
     reading: Option<OpenFile<R::File>>,
     writing: Option<OpenFile<R::File>>,
 }
@@ -31,12 +38,11 @@ struct OpenFile<F: Drop> {
 }
 
 impl<'r, R: rt::Files + Print + StandardError + AllocGlobal> Model for DiskFiles<'r, R> {
-    ghost use Rattle.outside.specs.declared.memory_files.calls.CallCounts.{CallCounts};
+    ghost use Rattle.outside.specs.DiskFiles.{DiskState};
 
-    // the counts of faults
-    ghost Value = { CallCounts };
+    ghost Value = { DiskState };
 
-    ghost view = { λ files. files.faults };
+    ghost view = { λ d. record { faults = d.faults; calls = d.log.events } };
 }
 
 impl<F: Drop> OpenFile<F> {
@@ -49,14 +55,15 @@ impl<F: Drop> OpenFile<F> {
 }
 
 impl<'r, R: rt::Files + Print + StandardError + AllocGlobal> DiskFiles<'r, R> {
-    /// Over the runtime's files, standard output and standard error. No file is opened yet, and no
-    /// fault is counted.
+    /// Over the runtime's files, standard output and standard error. No file is opened yet, no call is
+    /// noted, and no fault is counted.
     pub fn make(rt: &'r R) -> DiskFiles<'r, R>
-        ensures { result ≡ no_calls }
+        ensures { result ≡ record { faults = no_calls; calls = [] } }
     {
         DiskFiles {
             rt,
             faults: CallCounts::NONE,
+            log: CallLog::new(),
             reading: None,
             writing: None,
         }
@@ -64,7 +71,7 @@ impl<'r, R: rt::Files + Print + StandardError + AllocGlobal> DiskFiles<'r, R> {
 
     // Counts a fault of this kind of call.
     fn fail(&mut self, call: Call) -> Failed
-        ensures { self.new ≡ one_more call self.old }
+        ensures { self.new ≡ record self.old { faults = one_more call self.old.faults } }
     {
         self.faults.raise(call);
         Failed
@@ -76,9 +83,9 @@ impl<'r, R: rt::Files + Print + StandardError + AllocGlobal> DiskFiles<'r, R> {
 
     // A file is opened anew for its first piece, and closed after its last. It is moved to another
     // place only where it does not stand at this one: a pipe, which cannot be moved, is read in order.
-    fn read_at(&mut self, name: &str, at: u64, buf: &mut [u8]) -> io::Result<usize>
+    fn read_at(&mut self, name: &str, at: u64, buf: &mut [u8]) -> Result<usize, Failed>
         ensures room { IfOk result (λ k. k ≤ length buf.old) }
-        ensures faults { self.new ≡ self.old }
+        ensures calls { self.new ≡ record self.old { calls = noted_if result (λ k. Gave name.now at (length buf.old) (take k buf.new)) self.old.calls } }
     {
         let mut open = match self.reading.take() {
             Some(open) if at > 0 && open.has_name(name) => open,
@@ -91,7 +98,7 @@ impl<'r, R: rt::Files + Print + StandardError + AllocGlobal> DiskFiles<'r, R> {
         if open.place != at {
             open.file.seek(SeekFrom::Start(at))?;
         }
-        let count = open.file.read(buf)?;
+        let count = noted_calls::read(&mut self.log, &mut open.file, name, at, buf)?;
         open.place = at.saturating_add(count as u64);
         if count > 0 {
             self.reading = Some(open);
@@ -99,20 +106,22 @@ impl<'r, R: rt::Files + Print + StandardError + AllocGlobal> DiskFiles<'r, R> {
         Ok(count)
     }
 
-    fn create(&mut self, name: &str) -> io::Result<()>
-        ensures faults { self.new ≡ self.old }
+    fn create(&mut self, name: &str) -> Result<(), Failed>
+        ensures calls { self.new ≡ record self.old { calls = noted_if result (λ done. Began name.now) self.old.calls } }
     {
+        let file = noted_calls::create(&mut self.log, self.rt, name)?;
         self.writing = Some(OpenFile {
             name: self.kept_name(name),
-            file: fs::create(self.rt, name)?,
+            file,
             place: 0,
         });
         Ok(())
     }
 
-    fn append(&mut self, name: &str, bytes: &[u8]) -> io::Result<usize>
+    fn append(&mut self, name: &str, bytes: &[u8]) -> Result<usize, Failed>
         ensures room { IfOk result (λ k. k ≤ length bytes.now) }
-        ensures faults { self.new ≡ self.old }
+        ensures some { IfOk result (λ k. 0 < length bytes.now → 0 < k) }
+        ensures calls { self.new ≡ record self.old { calls = noted_if result (λ k. Took name.now (take k bytes.now)) self.old.calls } }
     {
         let mut open = match self.writing.take() {
             Some(open) if open.has_name(name) => open,
@@ -122,7 +131,7 @@ impl<'r, R: rt::Files + Print + StandardError + AllocGlobal> DiskFiles<'r, R> {
                 place: 0,
             },
         };
-        let count = open.file.write(bytes)?;
+        let count = noted_calls::write(&mut self.log, &mut open.file, name, bytes)?;
         self.writing = Some(open);
         Ok(count)
     }
@@ -131,7 +140,9 @@ impl<'r, R: rt::Files + Print + StandardError + AllocGlobal> DiskFiles<'r, R> {
 impl<'r, R: rt::Files + Print + StandardError + AllocGlobal> Files for DiskFiles<'r, R> {
     ghost told = { λ _. None };
 
-    ghost faults = { counts_of_kinds };
+    ghost seen = { λ c d. seen d.calls c };
+
+    ghost faults = { λ d. counts_of_kinds d.faults };
 
     fn read(&mut self, name: &str, at: u64, buf: &mut [u8]) -> Result<usize, Failed> {
         match self.read_at(name, at, buf) {
@@ -149,22 +160,22 @@ impl<'r, R: rt::Files + Print + StandardError + AllocGlobal> Files for DiskFiles
 
     fn write(&mut self, name: &str, bytes: &[u8]) -> Result<usize, Failed> {
         match self.append(name, bytes) {
-            Ok(count) if count > 0 || bytes.is_empty() => Ok(count),
-            _ => Err(self.fail(Call::Write)),
+            Ok(count) => Ok(count),
+            Err(_) => Err(self.fail(Call::Write)),
         }
     }
 
     fn out(&mut self, bytes: &[u8]) -> Result<usize, Failed> {
-        match self.rt.write_some(bytes) {
-            Ok(count) if count > 0 || bytes.is_empty() => Ok(count),
-            _ => Err(self.fail(Call::Out)),
+        match noted_calls::out(&mut self.log, self.rt, bytes) {
+            Ok(count) => Ok(count),
+            Err(_) => Err(self.fail(Call::Out)),
         }
     }
 
     fn err(&mut self, bytes: &[u8]) -> Result<usize, Failed> {
-        match self.rt.write_error(bytes) {
-            Ok(count) if count > 0 || bytes.is_empty() => Ok(count),
-            _ => Err(self.fail(Call::Err)),
+        match noted_calls::err(&mut self.log, self.rt, bytes) {
+            Ok(count) => Ok(count),
+            Err(_) => Err(self.fail(Call::Err)),
         }
     }
 }

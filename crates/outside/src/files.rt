@@ -1,9 +1,9 @@
 ghost use Rattle.std.specs.Prelude.{◌≡◌, ◌≤◌, ◌<◌, ℕ, Option, true, length, IfOk, IfSome, OnErr, OnOk};
-ghost use Rattle.outside.specs.Contents.{Contents, GivesPiece, after_begin, after_err, after_out, after_write};
+ghost use Rattle.outside.specs.Contents.{Contents, GivesPiece, Stays, after_begin, after_err, after_out, after_write};
 ghost use Rattle.outside.specs.Faults.{Place, ReadOf, BeginOf, WriteOf, ToOut, ToErr, NeverFall, NoneRose, OnlyRose, Rose, of_err, of_reads, of_writes};
 
 use std::error::Error;
-use std::fmt;
+use std::{fmt, io};
 
 /// A call failed. Its count of faults rose, and the contents stay.
 #[derive(Clone, Copy, Debug, PartialEq, Eq, Hash)]
@@ -17,16 +17,27 @@ impl fmt::Display for Failed {
 
 impl Error for Failed {}
 
+impl From<io::Error> for Failed {
+    fn from(_cause: io::Error) -> Failed {
+        Failed
+    }
+}
+
 /// Files, standard output and standard error.
 ///
 /// Each call may fail at any time, and a failure is counted: for each kind of call and each name there
 /// is a count of faults, which never falls. A call that goes well raises no count, and one that fails none
 /// but of its own side: of reads, of what is written, or of standard error. What the files hold is told, or
-/// it is not.
+/// it is not. What the calls gave and took is seen in any case: for each contents that the files may have had
+/// at the first call, it is what they hold now, unless a read gave something else.
 pub trait Files {
     /// What the files hold, which names were begun, and what standard output and standard error
     /// were given; None where it is not told.
     ghost told: { Self → Option Contents };
+
+    /// What the files hold now by what the calls gave and took, if they held these contents at the first call;
+    /// None once a read gave what they do not have.
+    ghost seen: { Contents → Self → Option Contents };
 
     /// How often a call of this kind and name failed.
     ghost faults: { Self → Place → ℕ };
@@ -37,6 +48,8 @@ pub trait Files {
     fn read(&mut self, name: &str, at: u64, buf: &mut [u8]) -> Result<usize, Failed>
         ensures told { told self.new ≡ told self.old }
         ensures piece { IfOk result (λ k. IfSome (told self.old) (λ c. GivesPiece (c.file name.now) at (length buf.old) buf.new k)) }
+        ensures seen { (c : Contents) → Stays (seen c self.old) (seen c self.new) }
+        ensures seen_piece { (c : Contents) → IfOk result (λ k. IfSome (seen c self.new) (λ d. GivesPiece (d.file name.now) at (length buf.old) buf.new k)) }
         ensures room { IfOk result (λ k. k ≤ length buf.old) }
         ensures cause { OnErr result (Rose (faults self.old (ReadOf name.now)) (faults self.new (ReadOf name.now))) }
         ensures no_fault { OnOk result (NoneRose (faults self.old) (faults self.new)) }
@@ -46,6 +59,7 @@ pub trait Files {
     /// Makes the named file empty and begun, also where it was there.
     fn begin(&mut self, name: &str) -> Result<(), Failed>
         ensures told { told self.new ≡ after_begin result name.now (told self.old) }
+        ensures seen { (c : Contents) → seen c self.new ≡ after_begin result name.now (seen c self.old) }
         ensures cause { OnErr result (Rose (faults self.old (BeginOf name.now)) (faults self.new (BeginOf name.now))) }
         ensures no_fault { OnOk result (NoneRose (faults self.old) (faults self.new)) }
         ensures no_others { OnlyRose of_writes (faults self.old) (faults self.new) }
@@ -56,6 +70,7 @@ pub trait Files {
     fn write(&mut self, name: &str, bytes: &[u8]) -> Result<usize, Failed>
         requires begun { IfSome (told self.old) (λ c. c.begun name.now ≡ true) }
         ensures told { told self.new ≡ after_write result name.now bytes.now (told self.old) }
+        ensures seen { (c : Contents) → seen c self.new ≡ after_write result name.now bytes.now (seen c self.old) }
         ensures room { IfOk result (λ k. k ≤ length bytes.now) }
         ensures some { IfOk result (λ k. 0 < length bytes.now → 0 < k) }
         ensures cause { OnErr result (Rose (faults self.old (WriteOf name.now)) (faults self.new (WriteOf name.now))) }
@@ -67,6 +82,7 @@ pub trait Files {
     /// where there are any.
     fn out(&mut self, bytes: &[u8]) -> Result<usize, Failed>
         ensures told { told self.new ≡ after_out result bytes.now (told self.old) }
+        ensures seen { (c : Contents) → seen c self.new ≡ after_out result bytes.now (seen c self.old) }
         ensures room { IfOk result (λ k. k ≤ length bytes.now) }
         ensures some { IfOk result (λ k. 0 < length bytes.now → 0 < k) }
         ensures cause { OnErr result (Rose (faults self.old ToOut) (faults self.new ToOut)) }
@@ -78,6 +94,7 @@ pub trait Files {
     /// where there are any.
     fn err(&mut self, bytes: &[u8]) -> Result<usize, Failed>
         ensures told { told self.new ≡ after_err result bytes.now (told self.old) }
+        ensures seen { (c : Contents) → seen c self.new ≡ after_err result bytes.now (seen c self.old) }
         ensures room { IfOk result (λ k. k ≤ length bytes.now) }
         ensures some { IfOk result (λ k. 0 < length bytes.now → 0 < k) }
         ensures cause { OnErr result (Rose (faults self.old ToErr) (faults self.new ToErr)) }

@@ -1,9 +1,11 @@
 //! What lies outside the program: files, standard output and standard error.
 #![tactic(auto)]
 
+mod call_log;
 mod disk_files;
 mod files;
 mod memory_files;
+mod noted_calls;
 mod standard_error;
 mod whole_file;
 

@@ -2,7 +2,7 @@ ghost use Rattle.std.specs.Prelude.{◌≡◌, ◌≢◌, ◌≤◌, ◌<◌, �
 ghost use Rattle.std.specs.Prelude.{AllPairs, IfOk, IsErr, IsNone, IsTrue, OnErr, OnOk};
 ghost use Rattle.std.specs.Option.{option_copied};
 ghost use Rattle.outside.specs.Calls.{no_calls, one_more};
-ghost use Rattle.outside.specs.Contents.{GivesPiece, after_begin, after_err, after_out, after_write};
+ghost use Rattle.outside.specs.Contents.{Contents, GivesPiece, after_begin, after_err, after_out, after_write};
 ghost use Rattle.outside.specs.Faults.{Place, ReadOf, BeginOf, WriteOf, ToOut, ToErr, NeverFall, NoneRose, OnlyRose, Rose, of_err, of_reads, of_writes};
 ghost use Rattle.outside.specs.MemoryFiles.{contents_of, contents_given, faults_of, faults_after, piece_length, HasNoRoom, IsToFail, MakesCall};
 
@@ -162,11 +162,15 @@ fn count_elsewhere(elsewhere: &mut CallCounts, call: Call) -> Failed
 impl Files for MemFiles {
     ghost told = { λ m. Some (contents_of m) };
 
+    ghost seen = { λ c m. Some (contents_of m) };
+
     ghost faults = { faults_of };
 
     fn read(&mut self, name: &str, at: u64, buf: &mut [u8]) -> Result<usize, Failed>
         ensures told { Some (contents_of self.new) ≡ Some (contents_of self.old) }
         ensures piece { IfOk result (λ k. GivesPiece ((contents_of self.old).file name.now) at (length buf.old) buf.new k) }
+        ensures seen { (c : Contents) → Some (contents_of self.new) ≡ Some (contents_of self.old) }
+        ensures seen_piece { (c : Contents) → IfOk result (λ k. GivesPiece ((contents_of self.new).file name.now) at (length buf.old) buf.new k) }
         ensures room { IfOk result (λ k. k ≤ length buf.old) }
         ensures cause { OnErr result (Rose (faults_of self.old (ReadOf name.now)) (faults_of self.new (ReadOf name.now))) }
         ensures no_fault { OnOk result (NoneRose (faults_of self.old) (faults_of self.new)) }
@@ -189,6 +193,7 @@ impl Files for MemFiles {
 
     fn begin(&mut self, name: &str) -> Result<(), Failed>
         ensures told { Some (contents_of self.new) ≡ after_begin result name.now (Some (contents_of self.old)) }
+        ensures seen { (c : Contents) → Some (contents_of self.new) ≡ after_begin result name.now (Some (contents_of self.old)) }
         ensures cause { OnErr result (Rose (faults_of self.old (BeginOf name.now)) (faults_of self.new (BeginOf name.now))) }
         ensures no_fault { OnOk result (NoneRose (faults_of self.old) (faults_of self.new)) }
         ensures no_others { OnlyRose of_writes (faults_of self.old) (faults_of self.new) }
@@ -211,6 +216,7 @@ impl Files for MemFiles {
     fn write(&mut self, name: &str, bytes: &[u8]) -> Result<usize, Failed>
         requires begun { (contents_of self.old).begun name.now ≡ true }
         ensures told { Some (contents_of self.new) ≡ after_write result name.now bytes.now (Some (contents_of self.old)) }
+        ensures seen { (c : Contents) → Some (contents_of self.new) ≡ after_write result name.now bytes.now (Some (contents_of self.old)) }
         ensures room { IfOk result (λ k. k ≤ length bytes.now) }
         ensures some { IfOk result (λ k. 0 < length bytes.now → 0 < k) }
         ensures cause { OnErr result (Rose (faults_of self.old (WriteOf name.now)) (faults_of self.new (WriteOf name.now))) }
@@ -236,6 +242,7 @@ impl Files for MemFiles {
 
     fn out(&mut self, bytes: &[u8]) -> Result<usize, Failed>
         ensures told { Some (contents_of self.new) ≡ after_out result bytes.now (Some (contents_of self.old)) }
+        ensures seen { (c : Contents) → Some (contents_of self.new) ≡ after_out result bytes.now (Some (contents_of self.old)) }
         ensures room { IfOk result (λ k. k ≤ length bytes.now) }
         ensures some { IfOk result (λ k. 0 < length bytes.now → 0 < k) }
         ensures cause { OnErr result (Rose (faults_of self.old ToOut) (faults_of self.new ToOut)) }
@@ -261,6 +268,7 @@ impl Files for MemFiles {
 
     fn err(&mut self, bytes: &[u8]) -> Result<usize, Failed>
         ensures told { Some (contents_of self.new) ≡ after_err result bytes.now (Some (contents_of self.old)) }
+        ensures seen { (c : Contents) → Some (contents_of self.new) ≡ after_err result bytes.now (Some (contents_of self.old)) }
         ensures room { IfOk result (λ k. k ≤ length bytes.now) }
         ensures some { IfOk result (λ k. 0 < length bytes.now → 0 < k) }
         ensures cause { OnErr result (Rose (faults_of self.old ToErr) (faults_of self.new ToErr)) }

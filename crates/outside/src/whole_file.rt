@@ -1,4 +1,5 @@
 ghost use Rattle.std.specs.Prelude.{◌≡◌, ◌≤◌, ◌<◌, [], Some, true, length, All, IfErr, IfOk, OnOk, OnErr, IfSome, IsErrOf};
+ghost use Rattle.outside.specs.Contents.{Contents, Stays};
 ghost use Rattle.outside.specs.Faults.{ReadOf, ToOut, NeverFall, NoneRose, OnlyRose, Rose, of_writes};
 ghost use Rattle.outside.specs.WholeFiles.{Appends, GivesOut, IsLongerThan, Puts, refused_by};
 
@@ -61,9 +62,12 @@ fn read_into<F: Files>(
     ensures refused { IfErr result (λ failure. OnlyRose (refused_by failure) (F.faults files.old) (F.faults files.new)) }
     ensures never_fall { NeverFall (F.faults files.old) (F.faults files.new) }
     ensures bytes { OnOk result (IfSome (F.told files.old) (λ c. c.file name.now ≡ Some bytes.new.items)) }
+    ensures seen { (c : Contents) → Stays (F.seen c files.old) (F.seen c files.new) }
+    ensures seen_bytes { OnOk result ((c : Contents) → IfSome (F.seen c files.new) (λ d. d.file name.now ≡ Some bytes.new.items)) }
     ensures fits { OnOk result (length bytes.new.items ≤ limit) }
     ensures fault { IsErrOf result ReadFailure.Fault → Rose (F.faults files.old (ReadOf name.now)) (F.faults files.new (ReadOf name.now)) }
     ensures too_long { IsErrOf result ReadFailure.TooLong → IfSome (F.told files.old) (λ c. IsLongerThan limit c name.now) }
+    ensures seen_too_long { IsErrOf result ReadFailure.TooLong → (c : Contents) → IfSome (F.seen c files.new) (λ d. IsLongerThan limit d name.now) }
 {
     loop {
         let count = files.read(name, bytes.len() as u64, buf)?;
@@ -94,9 +98,12 @@ pub fn read_whole<F: Files>(
     ensures refused { IfErr result (λ failure. OnlyRose (refused_by failure) (F.faults files.old) (F.faults files.new)) }
     ensures never_fall { NeverFall (F.faults files.old) (F.faults files.new) }
     ensures bytes { IfOk result (λ v. IfSome (F.told files.old) (λ c. c.file name.now ≡ Some v.items)) }
+    ensures seen { (c : Contents) → Stays (F.seen c files.old) (F.seen c files.new) }
+    ensures seen_bytes { IfOk result (λ v. (c : Contents) → IfSome (F.seen c files.new) (λ d. d.file name.now ≡ Some v.items)) }
     ensures fits { IfOk result (λ v. length v.items ≤ limit) }
     ensures fault { IsErrOf result ReadFailure.Fault → Rose (F.faults files.old (ReadOf name.now)) (F.faults files.new (ReadOf name.now)) }
     ensures too_long { IsErrOf result ReadFailure.TooLong → IfSome (F.told files.old) (λ c. IsLongerThan limit c name.now) }
+    ensures seen_too_long { IsErrOf result ReadFailure.TooLong → (c : Contents) → IfSome (F.seen c files.new) (λ d. IsLongerThan limit d name.now) }
 {
     let mut bytes = Vec::new(alloc);
     read_into(files, name, limit, &mut bytes, buf)?;
@@ -108,6 +115,8 @@ fn append_all<F: Files>(files: &mut F, name: &str, bytes: &[u8]) -> Result<(), F
     requires begun { IfSome (F.told files.old) (λ c. c.begun name.now ≡ true) }
     ensures told { Appends result (record { name = name.now; bytes = bytes.now }) (F.faults files.old) (F.faults files.new) (F.told files.old)
         (F.told files.new) }
+    ensures seen { (c : Contents) → Appends result (record { name = name.now; bytes = bytes.now }) (F.faults files.old) (F.faults files.new)
+        (F.seen c files.old) (F.seen c files.new) }
     ensures no_fault { OnOk result (NoneRose (F.faults files.old) (F.faults files.new)) }
     ensures no_others { OnlyRose of_writes (F.faults files.old) (F.faults files.new) }
     ensures never_fall { NeverFall (F.faults files.old) (F.faults files.new) }
@@ -123,6 +132,8 @@ fn append_all<F: Files>(files: &mut F, name: &str, bytes: &[u8]) -> Result<(), F
 /// or holds a first part of the bytes.
 pub fn put_whole<F: Files>(files: &mut F, name: &str, bytes: &[u8]) -> Result<(), Failed>
     ensures told { Puts result (record { name = name.now; bytes = bytes.now }) (F.faults files.old) (F.faults files.new) (F.told files.old) (F.told files.new) }
+    ensures seen { (c : Contents) → Puts result (record { name = name.now; bytes = bytes.now }) (F.faults files.old) (F.faults files.new)
+        (F.seen c files.old) (F.seen c files.new) }
     ensures no_fault { OnOk result (NoneRose (F.faults files.old) (F.faults files.new)) }
     ensures no_others { OnlyRose of_writes (F.faults files.old) (F.faults files.new) }
     ensures never_fall { NeverFall (F.faults files.old) (F.faults files.new) }
@@ -135,6 +146,7 @@ pub fn put_whole<F: Files>(files: &mut F, name: &str, bytes: &[u8]) -> Result<()
 /// output was given a first part of them.
 pub fn put_out<F: Files>(files: &mut F, bytes: &[u8]) -> Result<(), Failed>
     ensures told { GivesOut result bytes.now (F.told files.old) (F.told files.new) }
+    ensures seen { (c : Contents) → GivesOut result bytes.now (F.seen c files.old) (F.seen c files.new) }
     ensures cause { OnErr result (Rose (F.faults files.old ToOut) (F.faults files.new ToOut)) }
     ensures no_fault { OnOk result (NoneRose (F.faults files.old) (F.faults files.new)) }
     ensures no_others { OnlyRose of_writes (F.faults files.old) (F.faults files.new) }

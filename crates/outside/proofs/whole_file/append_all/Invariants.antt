@@ -1,6 +1,6 @@
 use Rattle.std.proofs.Common.{◌≡◌, ◌≤◌, length, ◌-◌, take, true}
 use Rattle.std.specs.Prelude.{option_map, IfSome}
-use Rattle.outside.specs.Contents.{append_file}
+use Rattle.outside.specs.Contents.{Contents, append_file}
 use Rattle.outside.specs.Faults.{NeverFall, NoneRose}
 use Rattle.outside.proofs.whole_file.append_all.Given as goal
 
@@ -10,6 +10,7 @@ invariant-loop-at g l =
     let counts = g.F.Files.faults in
     record {
       told : contents l.files ≡ option_map (append_file l.name (take l.at l.bytes)) (contents l.fn.files);
+      seen : (c : Contents) → g.F.Files.seen c l.files ≡ option_map (append_file l.name (take l.at l.bytes)) (g.F.Files.seen c l.fn.files);
       no_fault : NoneRose (counts l.fn.files) (counts l.files);
       never_fall : NeverFall (counts l.fn.files) (counts l.files);
       within : l.at ≤ length l.bytes;

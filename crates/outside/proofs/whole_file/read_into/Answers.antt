@@ -1,6 +1,7 @@
 use Rattle.std.proofs.Common.{rules, ◌≡◌, ◌≤◌, ◌+◌, ◌-◌, ◌++◌, length, take, refl, ◌∙◌, arith, length-append}
 use Rattle.std.proofs.lemmas.List.{length-take-le}
 use Rattle.outside.proofs.Fronts.{wholes, longers, piece_here, appended}
+use Rattle.outside.proofs.Staying.{IfSome-Stays, Stays-trans}
 use Rattle.outside.proofs.whole_file.read_into.Goals as goal
 
 pub returns-then-count-eq0-clause-bytes : goal.returns-then-count-eq0-clause-bytes
@@ -10,8 +11,18 @@ returns-then-count-eq0-clause-bytes g c =
     (piece_here _ _ _ _ _ _ _ _ _ c.loop-count.invariant.told n c.if-count-eq0.true c.in_ok-count.ensures.piece)
     (omega (arith, c.loop-count.auto.buf, c.requires.room))
 
+pub returns-then-count-eq0-clause-seen_bytes : goal.returns-then-count-eq0-clause-seen_bytes
+returns-then-count-eq0-clause-seen_bytes g c d =
+    let see = g.F.Files.seen d in
+    let n : c.len.result ≡ length c.loop-count.bytes.items = search rules in
+    wholes (see c.read.new.self) c.args.name.now c.loop-count.bytes.items c.read.new.buf (length c.loop-count.buf)
+    (IfSome-Stays (see c.loop-count.files) (see c.read.new.self) _ (c.in_ok-count.ensures.seen d) (c.loop-count.invariant.seen_front d))
+    (piece_here _ _ _ _ _ _ _ _ _ refl n c.if-count-eq0.true (c.in_ok-count.ensures.seen_piece d))
+    (omega (arith, c.loop-count.auto.buf, c.requires.room))
+
 pub loop-count-preserved : goal.loop-count-preserved
 loop-count-preserved g c =
+    let see = g.F.Files.seen in
     let n : c.len.result ≡ length c.loop-count.bytes.items = search rules in
     let m : c.len-in-loop-count.result ≡ length c.loop-count.bytes.items = search rules in
     let e = appended c.extend_from_slice.result c.extend_from_slice.new.self.items c.loop-count.bytes.items
@@ -30,4 +41,10 @@ loop-count-preserved g c =
       most = rw e (omega arith);
       front = rw e (longers _ _ c.loop-count.bytes.items c.read.new.buf (length c.loop-count.buf) c.in_ok-count.count c.loop-count.invariant.front
           (piece_here _ _ _ _ _ _ _ _ _ c.loop-count.invariant.told n refl c.in_ok-count.ensures.piece));
+      seen = λ d. Stays-trans (see d c.args.files.now) (see d c.loop-count.files) (see d c.read.new.self) (c.loop-count.invariant.seen d)
+          (c.in_ok-count.ensures.seen d);
+      seen_front = λ d. rw e (longers (see d c.read.new.self) c.args.name.now c.loop-count.bytes.items c.read.new.buf (length c.loop-count.buf)
+          c.in_ok-count.count
+          (IfSome-Stays (see d c.loop-count.files) (see d c.read.new.self) _ (c.in_ok-count.ensures.seen d) (c.loop-count.invariant.seen_front d))
+          (piece_here _ _ _ _ _ _ _ _ _ refl n refl (c.in_ok-count.ensures.seen_piece d)));
     }

@@ -1,5 +1,6 @@
 use Rattle.std.proofs.Common.{◌≡◌, ◌≤◌, length, ◌-◌}
 use Rattle.std.specs.Prelude.{IfSome}
+use Rattle.outside.specs.Contents.{Contents, Stays}
 use Rattle.outside.specs.Faults.{NeverFall, NoneRose}
 use Rattle.outside.proofs.Fronts.{IsFrontOf}
 use Rattle.outside.proofs.whole_file.read_into.Given as goal
@@ -14,6 +15,8 @@ invariant-loop-count g l =
       never_fall : NeverFall (counts l.fn.files) (counts l.files);
       most : length l.bytes.items ≤ l.limit;
       front : IfSome (contents l.fn.files) (λ c. IsFrontOf (c.file l.name) l.bytes.items);
+      seen : (c : Contents) → Stays (g.F.Files.seen c l.fn.files) (g.F.Files.seen c l.files);
+      seen_front : (c : Contents) → IfSome (g.F.Files.seen c l.files) (λ d. IsFrontOf (d.file l.name) l.bytes.items);
     }
 
 abbrev pub decreases-loop-count : goal.decreases-loop-count

@@ -25,3 +25,12 @@ returns-in-Err-clause-counts c p =
     rw (← c.self.view_is, ← c.in-Err.ensures.err)
     (begin_counted c.args.name.now c.begin_file.new.files.items c.count_fault-in-Err.new.files.items m.elsewhere c.count_fault-in-Err.new.elsewhere
     m.out.items m.err.items c.count_fault-in-Err.ensures p)
+
+pub returns-then-fails_next-clause-seen : goal.returns-then-fails_next-clause-seen
+returns-then-fails_next-clause-seen c held = returns-then-fails_next-clause-told c
+
+pub returns-in-Ok-clause-seen : goal.returns-in-Ok-clause-seen
+returns-in-Ok-clause-seen c held = returns-in-Ok-clause-told c
+
+pub returns-in-Err-clause-seen : goal.returns-in-Err-clause-seen
+returns-in-Err-clause-seen c held = returns-in-Err-clause-told c

@@ -42,3 +42,12 @@ returns-in-Err-clause-cause_of_failure c =
       | inl none ↦ absurd (begun_is_there (file_named name m.files.items) none begun)
       | inr full ↦ inr (subst (λ (n : ℕ). HasNoRoom m.files.items name n) long full)
     ])
+
+pub returns-then-fails_next-clause-seen : goal.returns-then-fails_next-clause-seen
+returns-then-fails_next-clause-seen c held = returns-then-fails_next-clause-told c
+
+pub returns-in-Ok-clause-seen : goal.returns-in-Ok-clause-seen
+returns-in-Ok-clause-seen c held = returns-in-Ok-clause-told c
+
+pub returns-in-Err-clause-seen : goal.returns-in-Err-clause-seen
+returns-in-Err-clause-seen c held = returns-in-Err-clause-told c
