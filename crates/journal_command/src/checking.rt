@@ -1,6 +1,7 @@
 ghost use Rattle.std.specs.Prelude.{◌≡◌, ℕ, List, Ok};
 ghost use Rattle.eslip_rounds.specs.Schedulers.{Scheduler};
 ghost use Rattle.named_schedulers.specs.Named.{decision_named};
+ghost use Rattle.outside.specs.Contents.{Contents, held};
 ghost use Rattle.outside.specs.Faults.{NeverFall, NoneRose, OnlyRose};
 ghost use Rattle.journal_check.specs.declared.verdict.Verdict.TheVariants as verdict;
 ghost use Rattle.journal_command.specs.declared.ending.CheckEnding.TheVariants.{Yes};
@@ -25,6 +26,8 @@ pub fn check_file<F: Files>(
     files: &mut F,
 ) -> CheckEnding
     ensures meaning { MeansCheck (decision_named scheduler) name.now (F.told files.old) (F.told files.new) (F.faults files.old) (F.faults files.new) result }
+    ensures seen { (c : Contents) → MeansCheck (decision_named scheduler) name.now (held (F.seen c files.old) (F.seen c files.new)) (F.seen c files.new)
+        (F.faults files.old) (F.faults files.new) result }
     ensures no_fault { result ≡ Yes → NoneRose (F.faults files.old) (F.faults files.new) }
     ensures refused { OnlyRose (refused_by result) (F.faults files.old) (F.faults files.new) }
     ensures never_fall { NeverFall (F.faults files.old) (F.faults files.new) }
@@ -51,6 +54,8 @@ fn tell_yes<F: Files>(
 ) -> CheckEnding
     ensures meaning { (scheduler : Scheduler) → IsAnswered scheduler name.now (F.told files.old) (Ok (verdict.Yes slots longest.now))
         → MeansCheck scheduler name.now (F.told files.old) (F.told files.new) (F.faults files.old) (F.faults files.new) result }
+    ensures seen { (scheduler : Scheduler) (c : Contents) → IsAnswered scheduler name.now (F.seen c files.old) (Ok (verdict.Yes slots longest.now))
+        → MeansCheck scheduler name.now (F.seen c files.old) (F.seen c files.new) (F.faults files.old) (F.faults files.new) result }
     ensures no_fault { result ≡ Yes → NoneRose (F.faults files.old) (F.faults files.new) }
     ensures refused { OnlyRose (refused_by result) (F.faults files.old) (F.faults files.new) }
     ensures never_fall { NeverFall (F.faults files.old) (F.faults files.new) }

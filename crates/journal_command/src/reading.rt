@@ -1,5 +1,6 @@
 ghost use Rattle.std.specs.Prelude.{◌≡◌, ◌≢◌, ◌≤◌, Some, length, IfErr, IfOk, IfSome, OnOk};
 ghost use Rattle.eslip_rounds.specs.Schedulers.{Scheduler};
+ghost use Rattle.outside.specs.Contents.{Contents, Stays};
 ghost use Rattle.outside.specs.Faults.{NeverFall, NoneRose, OnlyRose};
 ghost use Rattle.journal_command.specs.declared.ending.CheckEnding.TheVariants.{Yes};
 ghost use Rattle.journal_command.specs.Checks.{MeansCheck, refused_by};
@@ -20,10 +21,14 @@ pub(crate) fn read_journal<F: Files>(
     ensures refused { IfErr result (λ ending. OnlyRose (refused_by ending) (F.faults files.old) (F.faults files.new)) }
     ensures never_fall { NeverFall (F.faults files.old) (F.faults files.new) }
     ensures bytes { IfOk result (λ v. IfSome (F.told files.old) (λ c. c.file name.now ≡ Some v.items)) }
+    ensures seen { (c : Contents) → Stays (F.seen c files.old) (F.seen c files.new) }
+    ensures seen_bytes { IfOk result (λ v. (c : Contents) → IfSome (F.seen c files.new) (λ d. d.file name.now ≡ Some v.items)) }
     ensures fits { IfOk result (λ v. length v.items ≤ MAX_JOURNAL_BYTES) }
     ensures no_yes { IfErr result (λ ending. ending ≢ Yes) }
     ensures stops { (scheduler : Scheduler)
         → IfErr result (MeansCheck scheduler name.now (F.told files.old) (F.told files.new) (F.faults files.old) (F.faults files.new)) }
+    ensures seen_stops { (scheduler : Scheduler) (c : Contents)
+        → IfErr result (MeansCheck scheduler name.now (F.seen c files.new) (F.seen c files.new) (F.faults files.old) (F.faults files.new)) }
 {
     let mut piece = read_buffer(alloc).map_err(|_| CheckEnding::OutOfMemory)?;
     match read_whole(alloc, files, name, MAX_JOURNAL_BYTES, piece.as_mut_slice()) {
