@@ -131,8 +131,16 @@ Balances-more job t begun so_far =
     let some = delayed-some job t in
     record { ages = omega (arith, count, delays, stays, slot, so_far.ages); few = omega (arith, count, delays, some, so_far.few) }
 
+balances : (job : JobValue) (t : ℕ) → job.settings.warm_up ≤ t → Balances job t
+balances job t later = with_slots job (Balances job) (Balances-first job) (Balances-more job) t later
+
 pub little-holds : (job : JobValue) (t : ℕ) → job.settings.warm_up ≤ t → IsLittle (numbers_after job t)
 unfolding numbers_after
 little-holds job t later =
-    let balance = with_slots job (Balances job) (Balances-first job) (Balances-more job) t later in
+    let balance = balances job t later in
     omega (arith, balance.ages, balance.few)
+
+-- each cell that departs has a delay of one slot at least
+pub departed-few : (job : JobValue) (t : ℕ) → job.settings.warm_up ≤ t → (numbers_after job t).departed ≤ (numbers_after job t).delays
+unfolding numbers_after
+departed-few job t later = (balances job t later).few

@@ -87,7 +87,7 @@ coming-by traffic seed t =
     filter_map (λ i. option_map (λ j. record { arrival = t; input = i; output = j }) (comes traffic seed i t)) (range_with_len 0 traffic.ports)
 
 module _ (ideal other : JobValue) (good : IsTraffic other.traffic) where
-  coming-same : (t : ℕ) → ideal.traffic ≡ other.traffic → ideal.seed ≡ other.seed → coming ideal t ≡ coming other t
+  pub coming-same : (t : ℕ) → ideal.traffic ≡ other.traffic → ideal.seed ≡ other.seed → coming ideal t ≡ coming other t
   coming-same t traffic seed =
       ap (λ (traffic : TrafficValue). coming-by traffic ideal.seed t) traffic ∙ ap (λ (seed : ℕ). coming-by other.traffic seed t) seed
 

@@ -17,3 +17,4 @@ pub mod FifoWaits
 pub mod IdealQueues
 pub mod OutputCells
 pub mod LeastWaiting
+pub mod LeastDelays

@@ -36,3 +36,10 @@ pub fn ideal_holds_fewest_cells()
     ensures cell_slots { (ideal other : JobValue) (t : ℕ) → IsTraffic other.traffic → AreCompared ideal other t
         → ideal.settings.warm_up ≡ other.settings.warm_up → (numbers_after ideal t).cell_slots ≤ (numbers_after other t).cell_slots }
 {}
+
+/// Where the other switch drops none of the cells and none waits in it behind the last slot, and all slots are measured, the
+/// ideal switch has the least sum of delays.
+pub fn ideal_has_least_delays()
+    ensures { (ideal other : JobValue) (t : ℕ) → IsTraffic other.traffic → AreCompared ideal other t → ideal.settings.warm_up ≡ 0
+        → other.settings.warm_up ≡ 0 → (numbers_after other t).waiting.cells ≡ 0 → (numbers_after ideal t).delays ≤ (numbers_after other t).delays }
+{}
