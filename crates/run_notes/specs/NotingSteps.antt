@@ -11,6 +11,7 @@ use Rattle.output_queued.specs.NotingSteps.{State}
 use Rattle.queue_measures.specs.NotingSteps.{Input, HasNoted as HasNotedQueues}
 use Rattle.packet_times.specs.declared.limits.TheConstants.{MAX_PACKETS_BYTES}
 use Rattle.packet_times.specs.Rows.{packets_text_under}
+use Rattle.packet_times.specs.KeptSteps.{left}
 use Rattle.packet_times.specs.NotingSteps.{Times, HasNoted as HasNotedTimes}
 use Rattle.run_journals.specs.RunFiles.{run_file_under, journal_text_under}
 use Rattle.reference_run.specs.RunLines.{run_matches_under}
@@ -73,7 +74,7 @@ told_by texts = record {
   journal = option_map (λ bytes. bytes.items) texts.journal;
   reference = string_bytes texts.reference;
   queues = string_bytes texts.queues;
-  packets = option_map string_bytes texts.packets;
+  packets = option_map left texts.packets;
 }
 
 -- Why the texts of a run, which is long or not, are not made: its journal is wanted and too long, or else the packets file of a

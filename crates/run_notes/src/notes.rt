@@ -121,7 +121,7 @@ impl RunNotes {
             → HasNoted scheduler plan self slots → IfErr result (StopsTold scheduler self.wanted long plan slots) }
     {
         let journal = bytes_of(self.journal)?;
-        let packets = packets_file(alloc, &self.packets, long)?;
+        let packets = packets_file(self.packets, long)?;
         let reference = reference_lines(alloc, &self.reference)?;
         let queues = queue_lines(alloc, &self.queues)?;
         let slots = lines_or_empty(alloc, self.slots);

@@ -1,14 +1,15 @@
-ghost use Rattle.std.specs.Prelude.{◌+◌, ℕ, Bool, option_map, IfErr, IfOk, IfSome, OnOk, string_bytes};
+ghost use Rattle.std.specs.Prelude.{◌+◌, ℕ, Bool, option_map, IfErr, IfOk, IfSome, OnOk};
 ghost use Rattle.eslip_rounds.specs.Schedulers.{Scheduler};
 ghost use Rattle.switch_plan.specs.GoodPlans.{SwitchPlan, IsGood, IsCountable, switch_plan_of};
 ghost use Rattle.run_laws.specs.Promises.{ArrivalsComeFirst};
 ghost use Rattle.run_laws.specs.Runs.{IsSlotUnder};
+ghost use Rattle.packet_times.specs.KeptSteps.{left};
 ghost use Rattle.packet_times.specs.Rows.{packets_text_under};
 ghost use Rattle.run_notes.specs.NotingSteps.{AreTimesAfter, IsKept, IsPacketsFile, StopsPackets};
 
 use crate::texts::NotesFault;
 use crossbar::Post;
-use packet_times::{MAX_PACKETS_BYTES, PacketTimes};
+use packet_times::{MAX_PACKETS_BYTES, PacketRows, PacketTimes};
 use rotating_pick::OutOfMemory;
 use slot_match::Match;
 use std::alloc::Global;
@@ -49,26 +50,25 @@ pub(crate) fn note_times(
     }
 }
 
-/// The packets file, where it is wanted: of at most 134,217,728 bytes where the run is not long.
+/// The packets file, where it is wanted: of at most 134,217,728 bytes where the run is not long. It takes no memory.
 pub(crate) fn packets_file(
-    alloc: Global,
-    times: &Option<PacketTimes>,
+    times: Option<PacketTimes>,
     long: bool,
-) -> Result<Option<String>, NotesFault>
-    ensures bytes { (scheduler : Scheduler) (plan : SwitchPlan) (is_wanted : Bool) (slots : ℕ) → IsKept is_wanted (AreTimesAfter scheduler plan slots) times.now
+) -> Result<Option<PacketRows>, NotesFault>
+    ensures bytes { (scheduler : Scheduler) (plan : SwitchPlan) (is_wanted : Bool) (slots : ℕ) → IsKept is_wanted (AreTimesAfter scheduler plan slots) times
         → ArrivalsComeFirst plan slots
-        → IfOk result (λ text. IsPacketsFile is_wanted long (packets_text_under scheduler plan slots) (option_map string_bytes text)) }
-    ensures stops { (scheduler : Scheduler) (plan : SwitchPlan) (is_wanted : Bool) (slots : ℕ) → IsKept is_wanted (AreTimesAfter scheduler plan slots) times.now
+        → IfOk result (λ rows. IsPacketsFile is_wanted long (packets_text_under scheduler plan slots) (option_map left rows)) }
+    ensures stops { (scheduler : Scheduler) (plan : SwitchPlan) (is_wanted : Bool) (slots : ℕ) → IsKept is_wanted (AreTimesAfter scheduler plan slots) times
         → ArrivalsComeFirst plan slots → IfErr result (StopsPackets is_wanted long (packets_text_under scheduler plan slots)) }
 {
     let Some(times) = times else {
         return Ok(None);
     };
     if !long {
-        let len = times.len(alloc)?;
+        let len = times.len()?;
         if len > MAX_PACKETS_BYTES as u64 {
             return Err(NotesFault::PacketsTooLong(len));
         }
     }
-    Ok(Some(times.text(alloc)?))
+    Ok(Some(times.into_rows()))
 }

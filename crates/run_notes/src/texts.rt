@@ -1,6 +1,7 @@
 ghost use Rattle.std.specs.Prelude.{◌≡◌};
 ghost use Rattle.run_notes.specs.declared.texts.NotesFault.TheVariants.{OutOfMemory};
 
+use packet_times::PacketRows;
 use rotating_pick::OutOfMemory;
 
 /// The texts that were wanted of a run.
@@ -14,8 +15,8 @@ pub struct NotedTexts {
     pub reference: String,
     /// The lines of the queues, empty where they are not wanted.
     pub queues: String,
-    /// The packets file, where it is wanted: of at most 134,217,728 bytes where the run is not long.
-    pub packets: Option<String>,
+    /// The packets file, piece by piece, where it is wanted: of at most 134,217,728 bytes where the run is not long.
+    pub packets: Option<PacketRows>,
 }
 
 /// Why the texts of a run are not made.
