@@ -4,7 +4,7 @@ from .cases import case
 from .failing_outputs import FULL, expect_full_within, write_fault
 from .failing_streams import OUT, OUT_FAULT, closing
 from .files import (
-    INPUTS, JOURNAL, MAX_RECORDS, PACKETS, QUEUES, RAW_IP, REPORT, SUMMARY, WORDS, header, outputs, packet, record,
+    INPUTS, JOURNAL, MAX_RECORDS, PACKETS, QUEUES, RAW_IP, REPORT, SUMMARY, WORDS, header, outputs, packet, record, report,
 )
 from .running import expect, expect_state
 
@@ -77,13 +77,46 @@ def journal_is_folder(place):
     expect_state(place, before, outputs())
 
 
-# As many packets as make a packets file that is longer than all other outputs: none of them has a route.
-UNROUTED = header(RAW_IP) + record(packet(20, (10, 0, 9, 1))) * 2_000
+def unrouted(packets):
+    """A capture of so many packets, none of which has a route."""
+    return header(RAW_IP) + record(packet(20, (10, 0, 9, 1))) * packets
 
 
-@case("a disk that becomes full within the packets file", {**INPUTS, "a": UNROUTED, "b": header(RAW_IP)})
+# As many packets as make a packets file that is longer than all other outputs.
+FEW = 2_000
+# And as many as make one of several pieces: it is written in pieces of 65,536 bytes.
+MANY = 6_000
+MANY_ROWS = PACKETS.splitlines(True)[0] + b"".join(b"0,%d,20,1,unrouted,,,,%d,,\n" % (k, k) for k in range(MANY))
+MANY_INPUTS = {**INPUTS, "a": unrouted(MANY), "b": header(RAW_IP)}
+
+
+@case("a disk that becomes full within the packets file", {**INPUTS, "a": unrouted(FEW), "b": header(RAW_IP)})
 def disk_becomes_full(place):
     expect_full_within(place, ".packets.csv", "32k", (FLAG,))
+
+
+def expect_pieces(place, *flags):
+    """Runs the job of many packets: its packets file is whole."""
+    before = place.state()
+    found = place.run_job(FLAG, *flags, *WORDS)
+    expect(found, 0, out=found.out)
+    captures = {f"out.{port}.pcap": header(RAW_IP) for port in range(2)}
+    expect_state(place, before, {**captures, "out.report": report(found.out, (0, 0), (0, 0)), "out.packets.csv": MANY_ROWS})
+
+
+@case("a packets file of several pieces", MANY_INPUTS)
+def packets_in_pieces(place):
+    expect_pieces(place)
+
+
+@case("a packets file of several pieces, of a long run", MANY_INPUTS)
+def long_packets_in_pieces(place):
+    expect_pieces(place, "--long")
+
+
+@case("a disk that becomes full within a later piece of the packets file", MANY_INPUTS)
+def disk_becomes_full_later(place):
+    expect_full_within(place, ".packets.csv", "128k", (FLAG, "--long"))
 
 
 @case("a closed standard output of a run with a packets file")

@@ -1,6 +1,6 @@
 -- The texts of a run, from what it left.
-use Rattle.std.proofs.Common.{◌≡◌, ◌≤◌, ◌++◌, ℕ, Bool, true, false, List, [], length, Option, Some, None, refl, sym, ◌∙◌, ap, subst}
-use Rattle.std.specs.Prelude.{IfSome, is_some, option_map, if◌then◌else◌}
+use Rattle.std.proofs.Common.{◌≡◌, ◌≤◌, ◌++◌, ℕ, Bool, true, false, List, [], ◌∷◌, length, Option, refl, sym, ◌∙◌, ap, append_assoc, subst}
+use Rattle.std.specs.Prelude.{IfSome, is_some, if◌then◌else◌}
 use Rattle.std.proofs.lemmas.List.{length-map}
 use Rattle.std.proofs.lemmas.List.FromFn.{length-map-range_with_len}
 use Rattle.pcap_records.specs.Output.{capture_text}
@@ -27,15 +27,21 @@ use Rattle.run_notes.specs.NotingSteps.{told_by}
 use Rattle.run_notes.specs.Told.{Told, told_under}
 use Rattle.switch_run.specs.declared.making.EndedRun.{EndedRun}
 use Rattle.switch_run.specs.MakingSteps.{AreMade, AreNumbersOf, IsRan, ToWrite}
-use Rattle.job_files.specs.OutputFiles.{files_in_order, Texts}
+use Rattle.outside.specs.WholeFiles.{NamedBytes}
+use Rattle.job_files.specs.FileSteps.{files_before}
+use Rattle.job_files.specs.OutputFiles.{files_from, files_in_order, journal_files, packets_files, packets_place, report_name, Texts}
 use Rattle.switch_run.specs.Switched.{IsRunOf, firm_texts, nothing_wanted, out_lines_under, report_under, texts_under, wanted_by}
 use Rattle.scheduler_runs.proofs.Promised.{firm-run, short-waits}
 use Rattle.job_files.proofs.Holding.{gen_is_no_run, firm_is_no_run}
 
--- there is one where there was one
-pub is_some-mapped : {X Y : Type 0} (f : X → Y) (o : Option X) → is_some o ≡ is_some (option_map f o)
-is_some-mapped f None = refl
-is_some-mapped f (Some x) = refl
+-- the packets file stands after the others
+pub in_order : (prefix : List ℕ) (outputs : List (List ℕ)) (report : List ℕ) (journal packets : Option (List ℕ)) (first last : List NamedBytes)
+    → first ≡ files_before prefix outputs report journal → last ≡ packets_files prefix packets
+    → first ++ last ≡ files_in_order prefix outputs report journal packets
+in_order prefix outputs report journal packets first last first_is last_is =
+    ap (λ fs. fs ++ last) first_is ∙ ap (λ fs. files_before prefix outputs report journal ++ fs) last_is
+    ∙ append_assoc (files_from prefix 0 outputs) (record { name = report_name prefix; bytes = report } ∷ journal_files prefix journal)
+    (packets_files prefix packets)
 
 -- the lines of the slots that are told of
 pub slot_lines : (is_wanted : Bool) (slots : List JournalSlot)
@@ -91,10 +97,10 @@ module _ (r : RunWords) (table : List ℕ) (captures : List (List ℕ)) (it : En
 
   pub run_made : (report : List ℕ) (written : ToWrite)
       → report ≡ report_bytes it.outcome.summary it.outcome.lines.items told.queues (if r.slots then journal_under by plan slots else []) ++ told.reference
-      → written.outputs ≡ length it.outcome.captures.items → written.with_journal ≡ is_some told.journal
+      → written.outputs ≡ length it.outcome.captures.items → written.before ≡ packets_place (length (bytes_of_files it.outcome.captures)) (is_some told.journal)
       → written.files ≡ files_in_order r.prefix (bytes_of_files it.outcome.captures) report told.journal told.packets
       → written.summary ≡ lines_text (summary_lines it.outcome.summary) → AreMade (run r) table captures written
-  run_made report written report_made outputs_is with_is files_is summary_is =
+  run_made report written report_made outputs_is before_is files_is summary_is =
       let left = ran.ran.left in
       let made = bytes_of_files it.outcome.captures in
       let captures_are : made ≡ texts.outputs = left.captures in
@@ -115,7 +121,8 @@ module _ (r : RunWords) (table : List ℕ) (captures : List (List ℕ)) (it : En
         };
         count = length-outputs;
         outputs_are = λ words is. outputs_is ∙ count ∙ ap length captures_are;
-        with_journal = λ words is. with_is ∙ ap is_some journal_same;
+        before = λ words is. before_is ∙ ap (λ (xs : List (List ℕ)). packets_place (length xs) (is_some told.journal)) captures_are
+            ∙ ap (λ (o : Option (List ℕ)). packets_place (length texts.outputs) (is_some o)) journal_same;
         files_are = files_is
             ∙ ap (λ (xs : List (List ℕ)). files_in_order r.prefix xs report told.journal told.packets) captures_are
             ∙ ap (λ (bytes : List ℕ). files_in_order r.prefix texts.outputs bytes told.journal told.packets) report_same
@@ -142,7 +149,7 @@ module _ (g : GenJob) (table : List ℕ) (captures : List (List ℕ)) (numbers :
         (λ j. capture_text of.plan.nano of.plan.link (messages_under (decision_named g.scheduler) of.plan j of.ran.slots)) 0 (ports_of of.plan)
         ∙ sym (length-map of.plan.cards (λ card. card.bytes)) ∙ ap length of.planned.planned.kept;
     outputs_are = λ words is. absurd (gen_is_no_run g words is);
-    with_journal = λ words is. absurd (gen_is_no_run g words is);
+    before = λ words is. absurd (gen_is_no_run g words is);
     files_are = files_is;
     summary_is = summary_is ∙ ap (λ (s : Summary). lines_text (summary_lines s)) of.ran.are;
   }
@@ -165,7 +172,7 @@ firm_made f table captures numbers written of files_is summary_is =
       };
       count = refl;
       outputs_are = λ words is. absurd (firm_is_no_run f words is);
-      with_journal = λ words is. absurd (firm_is_no_run f words is);
+      before = λ words is. absurd (firm_is_no_run f words is);
       files_are = files_is;
       summary_is = summary_is;
     }

@@ -1,5 +1,5 @@
 -- Why a job stops, said of a longer span of calls.
-use Rattle.std.proofs.Common.{◌≡◌, ◌≤◌, ◌+◌, ℕ, Bool, true, false, List, [], ◌∷◌, ◌++◌, length, Option, Some, None, inl, inr, refl, sym, ◌∙◌, ap, subst}
+use Rattle.std.proofs.Common.{◌≡◌, ◌<◌, ◌≤◌, ◌+◌, ℕ, Bool, true, false, List, [], ◌∷◌, ◌++◌, length, Option, Some, None, inl, inr, refl, sym, ◌∙◌, ap, subst}
 use Rattle.std.proofs.Common.{arith, length-append}
 use Rattle.std.specs.Prelude.{is_some, if◌then◌else◌, option_map}
 use Rattle.outside.specs.Contents.{Contents, append_err, append_out}
@@ -23,7 +23,7 @@ use Rattle.job_files.specs.RefusalLines.{memory_line}
 use Rattle.switch_run.specs.Endings.{Command, IsDone, IsMade, IsStopped, IsWriteFault, Means, Stops, StopsAtFile, StopsWriting, captures_made}
 use Rattle.switch_run.specs.MakingSteps.{AreMade, AreToWrite, IsEndOf, StopsPlan, StopsTexts, ToWrite}
 use Rattle.switch_run.specs.Switched.{wanted_by}
-use Rattle.job_files.specs.FileSteps.{StopsPutting, StopsReading}
+use Rattle.job_files.specs.FileSteps.{StopsPutting, StopsReading, files_before}
 use Rattle.job_files.specs.declared.ending.Written.{Written}
 use Rattle.job_files.specs.declared.ending.Written.TheVariants.{Output, Report, Journal, Packets, StandardOutput}
 use Rattle.job_files.specs.declared.ending.Ending.{Ending}
@@ -179,6 +179,15 @@ place-le : (outputs : ℕ) (with_journal : Bool) → packets_place outputs with_
 place-le outputs true = omega arith
 place-le outputs false = omega arith
 
+-- how many files come before the packets file
+pub length-files_before : (prefix : List ℕ) (outputs : List (List ℕ)) (report : List ℕ) (journal : Option (List ℕ))
+    → length (files_before prefix outputs report journal) ≡ packets_place (length outputs) (is_some journal)
+length-files_before prefix outputs report journal =
+    let after = record { name = report_name prefix; bytes = report } ∷ journal_files prefix journal in
+    let n = length-files_from prefix 0 outputs in
+    let k = length-journal_files prefix journal in
+    omega (arith, n, k, length-append (files_from prefix 0 outputs) after)
+
 -- no file stands after the packets file
 length-run_files : (prefix : List ℕ) (texts : Texts) → length (run_files prefix texts) ≤ packets_place (length texts.outputs) (is_some texts.journal) + 1
 length-run_files prefix texts =
@@ -210,59 +219,64 @@ few_files job old written w =
     omega (arith, n, k, ap length w.made.files_are)
 
 -- a job that has no files stopped after them
-stops_without_files : (job : JobWords) (outputs : ℕ) (with_journal : Bool) (texts : Texts) (what : Written) (old told : Option Contents) (was now : Place → ℕ)
+stops_without_files : (job : JobWords) (outputs before : ℕ) (texts : Texts) (what : Written) (old told : Option Contents) (was now : Place → ℕ)
     → files_of job texts ≡ []
-    → StopsPutting outputs with_journal (files_of job texts) texts.summary what old was now told → StopsWriting job texts what old was now told
-stops_without_files job outputs with_journal texts (Output port) old told was now none s = let n = ap length none in absurd (omega (arith, s.1.within, n))
-stops_without_files job outputs with_journal texts Report old told was now none s = let n = ap length none in absurd (omega (arith, s.within, n))
-stops_without_files job outputs with_journal texts Journal old told was now none s = let n = ap length none in absurd (omega (arith, s.1.within, n))
-stops_without_files job outputs with_journal texts Packets old told was now none s = let n = ap length none in absurd (omega (arith, s.2.within, n))
-stops_without_files job outputs with_journal texts StandardOutput old told was now none s = record { rose = s.rose; given = s.given; told_is = s.told_is }
+    → StopsPutting outputs before (files_of job texts) texts.summary what old was now told → StopsWriting job texts what old was now told
+stops_without_files job outputs before texts (Output port) old told was now none s = let n = ap length none in absurd (omega (arith, s.1.within, n))
+stops_without_files job outputs before texts Report old told was now none s = let n = ap length none in absurd (omega (arith, s.within, n))
+stops_without_files job outputs before texts Journal old told was now none s = let n = ap length none in absurd (omega (arith, s.3.within, n))
+stops_without_files job outputs before texts Packets old told was now none s = let n = ap length none in absurd (omega (arith, s.within, n))
+stops_without_files job outputs before texts StandardOutput old told was now none s = record { rose = s.rose; given = s.given; told_is = s.told_is }
+
+-- the file after the report and before the packets file is the journal's
+journal_place : (outputs place : ℕ) (with_journal : Bool) → outputs < place → place < packets_place outputs with_journal
+    → (with_journal ≡ true) × (place ≡ outputs + 1)
+journal_place outputs place true after before = (refl, omega (arith, after, before))
+journal_place outputs place false after before = absurd (omega (arith, after, before))
 
 run_stops_writing : (r : RunWords) (texts : Texts) (what : Written) (old told : Option Contents) (was now : Place → ℕ)
-    → StopsPutting (length texts.outputs) (is_some texts.journal) (run_files r.prefix texts) texts.summary what old was now told
-    → StopsWriting (run r) texts what old was now told
+    → StopsPutting (length texts.outputs) (packets_place (length texts.outputs) (is_some texts.journal)) (run_files r.prefix texts) texts.summary what old
+    was now told → StopsWriting (run r) texts what old was now told
 run_stops_writing r texts (Output port) old told was now s = (s.0, record { within = s.1.within; stops = s.1.stops })
 run_stops_writing r texts Report old told was now s = record { within = s.within; stops = s.stops }
-run_stops_writing r texts Journal old told was now s = (s.0, record { within = s.1.within; stops = s.1.stops })
-run_stops_writing r texts Packets old told was now s =
-    let n = length-run_files r.prefix texts in
-    let within = s.2.within in
-    let same : s.0 ≡ packets_place (length texts.outputs) (is_some texts.journal) = omega (arith, s.1, within, n) in
-    subst (λ (place : ℕ). StopsAtFile (run r) texts place old was now told) same (record { within = s.2.within; stops = s.2.stops })
+run_stops_writing r texts Journal old told was now (place, after, before, s) =
+    let at = journal_place (length texts.outputs) place (is_some texts.journal) after before in
+    (at.0, subst (λ (n : ℕ). StopsAtFile (run r) texts n old was now told) at.1 (record { within = s.within; stops = s.stops }))
+run_stops_writing r texts Packets old told was now s = record { within = s.within; stops = s.stops }
 run_stops_writing r texts StandardOutput old told was now s = record { rose = s.rose; given = s.given; told_is = s.told_is }
 
 -- a job that stopped at one of its files, or after them
-stops_writing : (job : JobWords) (outputs : ℕ) (with_journal : Bool) (texts : Texts) (what : Written) (old told : Option Contents) (was now : Place → ℕ)
-    → ((r : RunWords) → job ≡ run r → outputs ≡ length texts.outputs) → ((r : RunWords) → job ≡ run r → with_journal ≡ is_some texts.journal)
-    → StopsPutting outputs with_journal (files_of job texts) texts.summary what old was now told → StopsWriting job texts what old was now told
-stops_writing (run r) outputs with_journal texts what old told was now count journal s =
+stops_writing : (job : JobWords) (outputs before : ℕ) (texts : Texts) (what : Written) (old told : Option Contents) (was now : Place → ℕ)
+    → ((r : RunWords) → job ≡ run r → outputs ≡ length texts.outputs)
+    → ((r : RunWords) → job ≡ run r → before ≡ packets_place (length texts.outputs) (is_some texts.journal))
+    → StopsPutting outputs before (files_of job texts) texts.summary what old was now told → StopsWriting job texts what old was now told
+stops_writing (run r) outputs before texts what old told was now count placed s =
     run_stops_writing r texts what old told was now
-    (subst (λ (b : Bool). StopsPutting (length texts.outputs) b (run_files r.prefix texts) texts.summary what old was now told) (journal r refl)
-    (subst (λ (n : ℕ). StopsPutting n with_journal (run_files r.prefix texts) texts.summary what old was now told) (count r refl) s))
-stops_writing (gen g) outputs with_journal texts what old told was now count journal s =
-    stops_without_files (gen g) outputs with_journal texts what old told was now refl s
-stops_writing (check c) outputs with_journal texts what old told was now count journal s =
-    stops_without_files (check c) outputs with_journal texts what old told was now refl s
-stops_writing (firm f) outputs with_journal texts what old told was now count journal s =
-    stops_without_files (firm f) outputs with_journal texts what old told was now refl s
+    (subst (λ (n : ℕ). StopsPutting (length texts.outputs) n (run_files r.prefix texts) texts.summary what old was now told) (placed r refl)
+    (subst (λ (n : ℕ). StopsPutting n before (run_files r.prefix texts) texts.summary what old was now told) (count r refl) s))
+stops_writing (gen g) outputs before texts what old told was now count placed s =
+    stops_without_files (gen g) outputs before texts what old told was now refl s
+stops_writing (check c) outputs before texts what old told was now count placed s =
+    stops_without_files (check c) outputs before texts what old told was now refl s
+stops_writing (firm f) outputs before texts what old told was now count placed s =
+    stops_without_files (firm f) outputs before texts what old told was now refl s
 
 -- a call on what is written was refused
 pub write_fault : (job : JobWords) (old mid new : Option Contents) (written : ToWrite) (w : AreToWrite job old written) (was b now : Place → ℕ) (what : Written)
-    → mid ≡ old → NeverFall was b → StopsPutting written.outputs written.with_journal written.files written.summary what mid b now new
+    → mid ≡ old → NeverFall was b → StopsPutting written.outputs written.before written.files written.summary what mid b now new
     → IsWriteFault job old was now new what
 write_fault job old mid new written w was b now what same kept stops =
     let texts = w.made.texts in
     let outputs = written.outputs in
-    let with_journal = written.with_journal in
-    let by_files = subst (λ (fs : List NamedBytes). StopsPutting outputs with_journal fs written.summary what mid b now new) w.made.files_are stops in
-    let by_texts = subst (λ (text : List ℕ). StopsPutting outputs with_journal (files_of job texts) text what mid b now new) w.made.summary_is by_files in
-    let from_old = subst (λ (o : Option Contents). StopsPutting outputs with_journal (files_of job texts) texts.summary what o b now new) same by_texts in
+    let before = written.before in
+    let by_files = subst (λ (fs : List NamedBytes). StopsPutting outputs before fs written.summary what mid b now new) w.made.files_are stops in
+    let by_texts = subst (λ (text : List ℕ). StopsPutting outputs before (files_of job texts) text what mid b now new) w.made.summary_is by_files in
+    let from_old = subst (λ (o : Option Contents). StopsPutting outputs before (files_of job texts) texts.summary what o b now new) same by_texts in
     record {
       texts = texts;
       made = made job old written w;
       stops = StopsWriting-wider job texts was b now now old new kept (NeverFall-refl now) what
-          (stops_writing job outputs with_journal texts what old new b now w.made.outputs_are w.made.with_journal from_old);
+          (stops_writing job outputs before texts what old new b now w.made.outputs_are w.made.before from_old);
     }
 
 -- a job that stopped, and whose line was printed

@@ -1,5 +1,5 @@
 -- What making the texts of a job answers, and how the job ends after it.
-use Rattle.std.proofs.Common.{◌≡◌, ◌+◌, ◌≤◌, ℕ, Option, refl, subst, arith, length, map, string_bytes}
+use Rattle.std.proofs.Common.{◌≡◌, ◌+◌, ◌≤◌, ℕ, Option, refl, subst, arith, length, length-append, map, string_bytes}
 use Rattle.std.specs.Prelude.{Result, Ok, Err, IfErr, IfOk, option_map}
 use Rattle.std.proofs.lemmas.List.{length-map}
 use Rattle.rotating_pick.specs.declared.limits.TheConstants.{MAX_PORTS}
@@ -8,7 +8,7 @@ use Rattle.outside.specs.Faults.{Place}
 use Rattle.outside.proofs.Counting.{NeverFall-refl, NoneRose-refl}
 use Rattle.switch_words.specs.declared.job.GenJob.{GenJob}
 use Rattle.switch_words.specs.Reading.{JobWords, gen}
-use Rattle.job_files.specs.FileSteps.{StopsPutting}
+use Rattle.job_files.specs.FileSteps.{StopsPutting, all_shown, pieced}
 use Rattle.job_files.specs.Jobs.{RunsSwitch}
 use Rattle.job_files.specs.OutputFiles.{put_files, shown}
 use Rattle.job_files.specs.Statuses.{status_of}
@@ -16,12 +16,13 @@ use Rattle.job_files.specs.declared.ending.Ending.{Ending}
 use Rattle.job_files.specs.declared.ending.Ending.TheVariants.{Done, Usage, Checked}
 use Rattle.job_files.specs.declared.ending.Written.{Written}
 use Rattle.job_files.specs.declared.output_files.JobTexts.{JobTexts}
+use Rattle.switch_run.specs.declared.packets.PacketPieces.{PacketPieces}
 use Rattle.switch_run.specs.Endings.{IsDone, IsWriteFault, Stops}
-use Rattle.switch_run.specs.MakingSteps.{AreToWrite, IsEndOf, Makes, to_write}
+use Rattle.switch_run.specs.MakingSteps.{AreToWrite, IsEndOf, Makes, left_of, to_write}
 use Rattle.switch_run.proofs.Stopping.{done, few_files, write_fault}
 
 -- what making the texts of a `gen` job answers, which reads nothing
-pub gen_makes : (g : GenJob) (old : Option Contents) (counts : Place → ℕ) (made : Result JobTexts Ending)
+pub gen_makes : (g : GenJob) (old : Option Contents) (counts : Place → ℕ) (made : Result (JobTexts PacketPieces) Ending)
     → IfOk made (λ texts. (told : Option Contents) → AreToWrite (gen g) told (to_write texts))
     → IfErr made (λ ending. (told : Option Contents) (was now : Place → ℕ) → Stops (gen g) told was now told ending)
     → Makes (gen g) old counts counts old made
@@ -39,11 +40,11 @@ gen_makes g old counts (Err ending) made stops =
     }
 
 -- the texts of a job that were made have no more files than can be written
-pub few_texts : (job : JobWords) (old : Option Contents) (made : Result JobTexts Ending) → IfOk made (λ texts. AreToWrite job old (to_write texts))
-    → IfOk made (λ texts. length texts.files.items ≤ MAX_PORTS + 3)
+pub few_texts : (job : JobWords) (old : Option Contents) (made : Result (JobTexts PacketPieces) Ending)
+    → IfOk made (λ texts. AreToWrite job old (to_write texts)) → IfOk made (λ texts. length texts.files.items ≤ MAX_PORTS + 3)
 few_texts job old (Ok texts) is =
     let few = few_files job old (to_write texts) is in
-    omega (arith, few, length-map texts.files.items shown)
+    omega (arith, few, length-append (map shown texts.files.items) (pieced left_of texts.packets), length-map texts.files.items shown)
 few_texts job old (Err ending) is = tt
 
 -- a job that stops ends so
@@ -60,14 +61,14 @@ other_status job old told was now Usage runs stops same = stops
 other_status job old told was now (Checked ending) runs stops same = subst RunsSwitch stops.is_check runs
 other_status job old told was now _ runs stops same = omega (arith, same)
 
-module _ (job : JobWords) (old mid new : Option Contents) (was between now : Place → ℕ) (texts : JobTexts)
+module _ (job : JobWords) (old mid new : Option Contents) (was between now : Place → ℕ) (texts : JobTexts PacketPieces)
     (m : Makes job old was between mid (Ok texts)) where
   -- the texts that were made were written: the job is done
-  pub made_done : new ≡ option_map (λ c. append_out (string_bytes texts.summary) (put_files (map shown texts.files.items) c)) mid → IsDone job old new
+  pub made_done : new ≡ option_map (λ c. append_out (string_bytes texts.summary) (put_files (all_shown left_of texts) c)) mid → IsDone job old new
   made_done put = done job old (to_write texts) m.texts mid new m.told_is put
 
   -- a call that wrote the texts that were made was refused
   pub made_write_fault : (what : Written)
-      → StopsPutting texts.outputs texts.with_journal (map shown texts.files.items) (string_bytes texts.summary) what mid between now new
+      → StopsPutting texts.outputs (length texts.files.items) (all_shown left_of texts) (string_bytes texts.summary) what mid between now new
       → IsWriteFault job old was now new what
   made_write_fault what stops = write_fault job old mid new (to_write texts) m.texts was between now what m.told_is m.never_fall stops

@@ -18,6 +18,7 @@ use Rattle.run_laws.specs.Ends.{IsLengthUnder}
 use Rattle.run_outcomes.specs.Outcomes.{summary_under}
 use Rattle.journal_check.specs.declared.limits.TheConstants.{MAX_JOURNAL_BYTES}
 use Rattle.packet_times.specs.declared.limits.TheConstants.{MAX_PACKETS_BYTES}
+use Rattle.packet_times.specs.KeptSteps.{left}
 use Rattle.run_notes.specs.declared.wanted.Wanted.{Wanted}
 use Rattle.run_notes.specs.declared.texts.NotesFault.{NotesFault}
 use Rattle.run_notes.specs.declared.texts.NotesFault.TheVariants as fault
@@ -26,11 +27,13 @@ use Rattle.run_notes.specs.Told.{told_under}
 use Rattle.descriptor_runs.specs.Outcomes.{IsRunOutcome}
 use Rattle.job_files.specs.Inputs.{AreInputs}
 use Rattle.job_files.specs.Jobs.{RunsSwitch}
-use Rattle.job_files.specs.OutputFiles.{Texts, files_of, shown}
+use Rattle.job_files.specs.FileSteps.{all_shown}
+use Rattle.job_files.specs.OutputFiles.{Texts, files_of, packets_place}
 use Rattle.job_files.specs.Statuses.{refused_by}
 use Rattle.job_files.specs.declared.output_files.JobTexts.{JobTexts}
 use Rattle.switch_run.specs.declared.making.NotedRun.{NotedRun}
 use Rattle.switch_run.specs.declared.making.EndedRun.{EndedRun}
+use Rattle.switch_run.specs.declared.packets.PacketPieces.{PacketPieces}
 use Rattle.switch_run.specs.Switched.{IsPlanned, IsJobOutcome, IsLongJournal, IsLongPackets}
 use Rattle.switch_run.specs.Endings.{IsDone, Stops, captures_made}
 use Rattle.job_files.specs.declared.ending.Ending.{Ending}
@@ -67,19 +70,23 @@ HaveMessages messages outputs = (j : ℕ) (out : CardOut) → slice_get outputs 
 abbrev pub line_of_card : CardOut → OutLine
 line_of_card out = record { packets = out.packets; cells = out.cells }
 
--- What is to be written: files, of which so many are those of outputs, with or without a journal among them, and a summary.
+-- What is to be written: files, of which so many are those of outputs and so many come before the packets file, and a summary.
 pub record ToWrite : Type 0 where
   pub outputs : ℕ
-  pub with_journal : Bool
+  pub before : ℕ
   pub files : List NamedBytes
   pub summary : List ℕ
 
+-- the bytes that are left of the pieces of a packets file
+abbrev pub left_of : PacketPieces → List ℕ
+left_of pieces = left pieces.rows
+
 -- the words of what is to be written
-abbrev pub to_write : JobTexts → ToWrite
+abbrev pub to_write : JobTexts PacketPieces → ToWrite
 to_write texts = record {
   outputs = texts.outputs;
-  with_journal = texts.with_journal;
-  files = map shown texts.files.items;
+  before = length texts.files.items;
+  files = all_shown left_of texts;
   summary = string_bytes texts.summary;
 }
 
@@ -89,7 +96,7 @@ pub record AreMade (job : JobWords) (table : List ℕ) (captures : List (List �
   pub outcome : IsJobOutcome job table captures (Ok texts)
   pub count : length texts.outputs ≡ captures_made job (length captures)
   pub outputs_are : (r : RunWords) → job ≡ run r → written.outputs ≡ length texts.outputs
-  pub with_journal : (r : RunWords) → job ≡ run r → written.with_journal ≡ is_some texts.journal
+  pub before : (r : RunWords) → job ≡ run r → written.before ≡ packets_place (length texts.outputs) (is_some texts.journal)
   pub files_are : written.files ≡ files_of job texts
   pub summary_is : written.summary ≡ texts.summary
 
@@ -147,7 +154,8 @@ pub record AreToWrite (job : JobWords) (told : Option Contents) (written : ToWri
 
 -- What making the texts of a job left and answered. Nothing was written and no count fell; where the texts are made none rose,
 -- and they are to be written, and where they are not the job stops, and none rose but those of its ending.
-pub record Makes (job : JobWords) (old : Option Contents) (was now : Place → ℕ) (told : Option Contents) (made : Result JobTexts Ending) : Type 0 where
+pub record Makes (job : JobWords) (old : Option Contents) (was now : Place → ℕ) (told : Option Contents)
+    (made : Result (JobTexts PacketPieces) Ending) : Type 0 where
   pub runs : RunsSwitch job
   pub told_is : told ≡ old
   pub never_fall : NeverFall was now

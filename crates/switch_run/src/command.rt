@@ -12,6 +12,7 @@ ghost use Rattle.job_files.specs.declared.ending.Ending.{Ending};
 ghost use Rattle.job_files.specs.declared.ending.Ending.TheVariants.{Usage};
 
 use crate::job_texts::{end_of_check, texts_of_firm, texts_of_gen, texts_of_run};
+use crate::packets::PacketPieces;
 use buffer_sizing::laws as sizes;
 use card_worker::Gate;
 use departure_bounds::laws as bounds;
@@ -32,7 +33,7 @@ use std::thread::Threads;
 use switch_words::{Job, WordsFault, read_words};
 
 // Writes the texts of a job, where they were made: how the job ends.
-fn end_of_writing<F: Files>(made: Result<JobTexts, Ending>, files: &mut F) -> Ending
+fn end_of_writing<F: Files>(made: Result<JobTexts<PacketPieces>, Ending>, files: &mut F) -> Ending
     requires { IfOk made (λ texts. length texts.files.items ≤ MAX_PORTS + 3) }
     ensures meaning { (job : JobWords) (old : Option Contents) (was : Place → ℕ) → Makes job old was (F.faults files.old) (F.told files.old) made
         → IsEndOf job old was (F.faults files.new) (F.told files.new) result }
@@ -43,7 +44,7 @@ fn end_of_writing<F: Files>(made: Result<JobTexts, Ending>, files: &mut F) -> En
     ensures never_fall { NeverFall (F.faults files.old) (F.faults files.new) }
 {
     match made {
-        Ok(texts) => match put_texts(files, &texts) {
+        Ok(mut texts) => match put_texts(files, &mut texts) {
             Ok(()) => Ending::Done,
             Err(written) => Ending::WriteFault(written),
         },

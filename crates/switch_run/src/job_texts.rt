@@ -9,6 +9,7 @@ ghost use Rattle.switch_run.specs.MakingSteps.{AreToWrite, IsEndOf, to_write};
 ghost use Rattle.switch_run.specs.Switched.{wanted_by};
 
 use crate::making::{RunWay, plan_and_run, summary_of_job};
+use crate::packets::PacketPieces;
 use crate::texts::{run_texts, summary_alone};
 use card_worker::Gate;
 use job_files::{Ending, JobTexts, made_inputs, read_inputs, reads_of_firm, reads_of_run};
@@ -40,7 +41,7 @@ pub(crate) fn texts_of_run<R: Threads + Sync, F: Files, G: Gate + Sync>(
     job: &RunJob,
     files: &mut F,
     gate: &G,
-) -> Result<JobTexts, Ending>
+) -> Result<JobTexts<PacketPieces>, Ending>
     requires { IsRunWithinLimits job.now }
     ensures told { F.told files.new ≡ F.told files.old }
     ensures no_fault { OnOk result (NoneRose (F.faults files.old) (F.faults files.new)) }
@@ -66,7 +67,7 @@ pub(crate) fn texts_of_gen<R: Threads + Sync, G: Gate + Sync>(
     alloc: Global,
     job: &GenJob,
     gate: &G,
-) -> Result<JobTexts, Ending>
+) -> Result<JobTexts<PacketPieces>, Ending>
     requires { IsGenWithinLimits job.now }
     ensures made { IfOk result (λ texts. (told : Option Contents) → AreToWrite (gen job.now) told (to_write texts)) }
     ensures stops { IfErr result (λ ending. (told : Option Contents) (was now : Place → ℕ) → Stops (gen job.now) told was now told ending) }
@@ -83,7 +84,7 @@ pub(crate) fn texts_of_firm<R: Threads + Sync, F: Files, G: Gate + Sync>(
     job: &FirmJob,
     files: &mut F,
     gate: &G,
-) -> Result<JobTexts, Ending>
+) -> Result<JobTexts<PacketPieces>, Ending>
     requires { IsFirmWithinLimits job.now }
     ensures told { F.told files.new ≡ F.told files.old }
     ensures no_fault { OnOk result (NoneRose (F.faults files.old) (F.faults files.new)) }

@@ -6,6 +6,7 @@ mod command;
 mod job_texts;
 pub mod laws;
 mod making;
+mod packets;
 mod texts;
 
 pub use command::switch_main;

@@ -8,8 +8,9 @@ ghost use Rattle.switch_run.specs.MakingSteps.{AreMade, IsRan, to_write};
 ghost use Rattle.switch_run.specs.Switched.{wanted_by};
 
 use crate::making::EndedRun;
+use crate::packets::{PacketPieces, pieces_of};
 use descriptor_runs::RunOutcome;
-use job_files::{JobTexts, run_files};
+use job_files::{JobTexts, packets_file, run_files};
 use rotating_pick::{MAX_PORTS, OutOfMemory};
 use run_notes::NotedTexts;
 use slot_report::{OutLine, Summary, report_with_lines, summary_text};
@@ -41,7 +42,11 @@ fn report(
 }
 
 /// What a `run` job writes of its run. It takes all memory that the job needs from here on, and want of it is the only error.
-pub(crate) fn run_texts(alloc: Global, job: &RunJob, ran: EndedRun) -> Result<JobTexts, OutOfMemory>
+pub(crate) fn run_texts(
+    alloc: Global,
+    job: &RunJob,
+    ran: EndedRun,
+) -> Result<JobTexts<PacketPieces>, OutOfMemory>
     requires few { length ran.outcome.lines.items ≤ MAX_PORTS }
     ensures { (table : List ℕ) (captures : List (List ℕ))
         → IsRan (decision_named job.now.scheduler) job.now.settings (wanted_by (run_words job.now)) table captures ran
@@ -61,34 +66,31 @@ pub(crate) fn run_texts(alloc: Global, job: &RunJob, ran: EndedRun) -> Result<Jo
         packets,
         ..
     } = told;
-    let with_journal = journal.is_some();
-    let files = run_files(
-        alloc,
-        job.prefix.as_str(),
-        captures,
-        report,
-        journal,
-        packets,
-    )?;
+    let prefix = job.prefix.as_str();
+    let files = run_files(alloc, prefix, captures, report, journal)?;
+    let packets = packets_file(alloc, prefix, pieces_of(packets))?;
     Ok(JobTexts {
         outputs,
-        with_journal,
         files,
+        packets,
         summary,
     })
 }
 
 /// The summary of a run, without files.
-pub(crate) fn summary_alone(alloc: Global, summary: &Summary) -> Result<JobTexts, OutOfMemory>
+pub(crate) fn summary_alone(
+    alloc: Global,
+    summary: &Summary,
+) -> Result<JobTexts<PacketPieces>, OutOfMemory>
     ensures outputs { IfOk result (λ texts. texts.outputs ≡ 0) }
-    ensures files { IfOk result (λ texts. texts.files.items ≡ []) }
+    ensures files { IfOk result (λ texts. (to_write texts).files ≡ []) }
     ensures summary { IfOk result (λ texts. string_bytes texts.summary ≡ lines_text (summary_lines summary.now)) }
 {
     let summary = summary_text(alloc, summary)?;
     Ok(JobTexts {
         outputs: 0,
-        with_journal: false,
         files: Vec::new(alloc),
+        packets: None,
         summary,
     })
 }

@@ -1,9 +1,8 @@
-use Rattle.std.proofs.Common.{ap, arith, map, refl, string_bytes}
+use Rattle.std.proofs.Common.{arith, refl, string_bytes}
 use Rattle.std.proofs.lemmas.List.{length-map}
 use Rattle.switch_plan.specs.ReadingSteps.{bytes_of_files}
 use Rattle.switch_words.specs.Reading.{firm, firm_words}
 use Rattle.job_files.specs.Jobs.{firm_reads}
-use Rattle.job_files.specs.OutputFiles.{shown}
 use Rattle.job_files.proofs.InputFiles.{read_of_size}
 use Rattle.switch_run.specs.MakingSteps.{to_write}
 use Rattle.std.proofs.lemmas.Result.{err_from_is_err_and}
@@ -57,5 +56,5 @@ returns-clause-made g c =
       few = omega (arith, read.captures_read.count, length-map names string_bytes, c.requires.inputs.most);
       made = firm_made (firm_words c.args.job.now) inputs.table.items files c.in_ok-summary.summary
           (to_write texts) c.in_ok-summary.ensures.ran
-          (ap (map shown) c.in_ok-summary_alone.ensures.files) c.in_ok-summary_alone.ensures.summary;
+          c.in_ok-summary_alone.ensures.files c.in_ok-summary_alone.ensures.summary;
     }

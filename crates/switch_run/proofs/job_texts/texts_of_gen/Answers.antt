@@ -1,7 +1,6 @@
-use Rattle.std.proofs.Common.{ap, map, refl}
+use Rattle.std.proofs.Common.{refl}
 use Rattle.switch_plan.specs.ReadingSteps.{bytes_of_files}
 use Rattle.switch_words.specs.Reading.{gen}
-use Rattle.job_files.specs.OutputFiles.{shown}
 use Rattle.switch_run.specs.MakingSteps.{to_write}
 use Rattle.std.proofs.lemmas.Result.{err_from_is_err_and}
 use Rattle.switch_run.proofs.RunTexts.{gen_made}
@@ -25,5 +24,5 @@ returns-clause-made g c told =
       inputs = (c.in_ok-inputs.ensures.table, c.in_ok-inputs.ensures.captures);
       few = c.in_ok-inputs.ensures.size.ports.most;
       made = gen_made c.args.job.now inputs.table.items (bytes_of_files inputs.captures) c.in_ok-summary.summary c.in_ok-summary.ensures.ran (to_write texts)
-          (ap (map shown) c.in_ok-summary_alone.ensures.files) c.in_ok-summary_alone.ensures.summary;
+          c.in_ok-summary_alone.ensures.files c.in_ok-summary_alone.ensures.summary;
     }
