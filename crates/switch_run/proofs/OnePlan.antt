@@ -199,7 +199,7 @@ same_plan settings table files p q a b =
     (subst (λ (read : List RouteLine). IsPlanOf settings files read a.captures q) (sym lines) planned) a.good b.good
 
 -- the run of a job under a scheduler is one
-same_run : (scheduler : Scheduler) (settings : Settings) (table : List ℕ) (files : List (List ℕ)) (p q : SwitchPlan) (s t : ℕ)
+pub same_run : (scheduler : Scheduler) (settings : Settings) (table : List ℕ) (files : List (List ℕ)) (p q : SwitchPlan) (s t : ℕ)
     → IsRunOf scheduler settings table files p s → IsRunOf scheduler settings table files q t → (p ≡ q) × (s ≡ t)
 same_run scheduler settings table files p q s t a b =
     let plan = same_plan settings table files p q a.planned b.planned in

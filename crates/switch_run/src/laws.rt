@@ -26,12 +26,13 @@ pub fn one_outcome()
     ensures texts { (job : JobWords) (table : List ℕ) (files : List (List ℕ)) (a b : Texts) → AreTexts job table files a → AreTexts job table files b → a ≡ b }
 {}
 
-/// The plan of a job has a run under each scheduler, and one number of slots.
+/// The plan of a job has a run under each scheduler, and a job has one run under it: one plan, and one number of slots.
 pub fn each_plan_has_one_run()
     ensures some { (name : SchedulerName) (settings : Settings) (table : List ℕ) (files : List (List ℕ)) (plan : SwitchPlan)
         → IsPlanned settings table files plan → (slots : ℕ) × IsRunOf (decision_named name) settings table files plan slots }
-    ensures one { (name : SchedulerName) (settings : Settings) (table : List ℕ) (files : List (List ℕ)) (plan : SwitchPlan) (a b : ℕ)
-        → IsRunOf (decision_named name) settings table files plan a → IsRunOf (decision_named name) settings table files plan b → a ≡ b }
+    ensures one { (name : SchedulerName) (settings : Settings) (table : List ℕ) (files : List (List ℕ)) (plan other : SwitchPlan) (a b : ℕ)
+        → IsRunOf (decision_named name) settings table files plan a → IsRunOf (decision_named name) settings table files other b
+        → (plan ≡ other) × (a ≡ b) }
 {}
 
 /// The number of workers makes no difference: a job with any other number of workers, from 1 to 32, has the same
