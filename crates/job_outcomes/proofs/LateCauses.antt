@@ -1,15 +1,14 @@
 -- Want of memory is no cause for which what was read is refused.
 use Rattle.std.proofs.Common.{◌≢◌, ℕ, ◌+◌, Bool, true, false, List, [], ◌∷◌, length, Option, None, Some}
-use Rattle.std.specs.Prelude.{if◌then◌else◌, nat_lt, option_map, sum_by}
+use Rattle.std.specs.Prelude.{if◌then◌else◌, map, nat_lt, option_map, sum_by}
 use Rattle.std.specs.Option.{option_or}
 use Rattle.forward_table.specs.declared.route_lines.RouteLine.{RouteLine}
-use Rattle.card_core.specs.declared.plan.Planned.{Planned}
 use Rattle.switch_plan.specs.declared.fault.PlanFault.{PlanFault}
 use Rattle.switch_plan.specs.declared.fault.PlanFault.TheVariants.{MixedLink, TooManySlots, TooManyPackets, TooManyCells, OutOfMemory}
 use Rattle.switch_plan.specs.declared.limits.Limits.{Limits}
 use Rattle.switch_plan.specs.Traffic.{CaptureFile, traffic_of}
 use Rattle.switch_plan.specs.Totals.{slots_of, total_work}
-use Rattle.switch_plan.specs.Refusals.{Terms, first_link, first_over, limits_for, mixed_links, over_limits, over_packets, over_work, refusal_of}
+use Rattle.switch_plan.specs.Refusals.{Terms, first_link, first_over, limits_for, mixed_links, over_cells, over_limits, over_packets, over_traffic, refusal_of}
 
 -- it is not this cause, if there is one
 abbrev NotMemory : Option PlanFault → Type 0
@@ -30,27 +29,26 @@ mixed first (Some other) is = absurd (cc)
 links : (captures : List CaptureFile) → NotMemory (mixed_links captures)
 links captures = mixed _ _
 
-over : (most port : ℕ) (ports : List (List Planned)) → NotMemory (first_over most port ports)
+over : (most port : ℕ) (ports : List ℕ) → NotMemory (first_over most port ports)
 over most port [] = λ is. absurd (cc)
-over most port (packets ∷ ports) =
-    told_if (nat_lt most (slots_of packets)) (TooManySlots port (slots_of packets)) (first_over most (port + 1) ports) (λ is. absurd (cc))
-    (over most (port + 1) ports)
+over most port (slots ∷ ports) =
+    told_if (nat_lt most slots) (TooManySlots port slots) (first_over most (port + 1) ports) (λ is. absurd (cc)) (over most (port + 1) ports)
 
-packets_over : (most : Option ℕ) (ports : List (List Planned)) → NotMemory (over_packets most ports)
-packets_over None ports = λ is. absurd (cc)
-packets_over (Some most) ports =
-    told_if (nat_lt most (sum_by length ports)) (TooManyPackets (sum_by length ports)) None (λ is. absurd (cc)) (λ is. absurd (cc))
+packets_over : (most : Option ℕ) (packets : ℕ) → NotMemory (over_packets most packets)
+packets_over None packets = λ is. absurd (cc)
+packets_over (Some most) packets = told_if (nat_lt most packets) (TooManyPackets packets) None (λ is. absurd (cc)) (λ is. absurd (cc))
 
-work_over : (most : ℕ) (ports : List (List Planned)) → NotMemory (over_work most ports)
-work_over most ports = told_if (nat_lt most (total_work ports)) (TooManyCells (total_work ports)) None (λ is. absurd (cc)) (λ is. absurd (cc))
+cells_over : (most cells : ℕ) → NotMemory (over_cells most cells)
+cells_over most cells = told_if (nat_lt most cells) (TooManyCells cells) None (λ is. absurd (cc)) (λ is. absurd (cc))
 
-limits_over : (limits : Limits) (ports : List (List Planned)) → NotMemory (over_limits limits ports)
-limits_over limits ports =
-    either (first_over limits.slots 0 ports) (option_or (over_packets limits.packets ports) (over_work limits.cells ports)) (over limits.slots 0 ports)
-    (either (over_packets limits.packets ports) (over_work limits.cells ports) (packets_over limits.packets ports) (work_over limits.cells ports))
+limits_over : (limits : Limits) (slots : List ℕ) (packets cells : ℕ) → NotMemory (over_limits limits slots packets cells)
+limits_over limits slots packets cells =
+    either (first_over limits.slots 0 slots) (option_or (over_packets limits.packets packets) (over_cells limits.cells cells)) (over limits.slots 0 slots)
+    (either (over_packets limits.packets packets) (over_cells limits.cells cells) (packets_over limits.packets packets) (cells_over limits.cells cells))
 
 pub no_memory : (terms : Terms) (table : List RouteLine) (captures : List CaptureFile) → refusal_of terms table captures ≢ Some OutOfMemory
 no_memory terms table captures =
     let traffic = traffic_of table (first_link captures) terms.speed captures in
     let limits = limits_for terms.long (length captures) in
-    either (mixed_links captures) (over_limits limits traffic) (links captures) (limits_over limits traffic)
+    either (mixed_links captures) (over_traffic limits traffic) (links captures)
+    (limits_over limits (map slots_of traffic) (sum_by length traffic) (total_work traffic))

@@ -16,7 +16,7 @@ use Rattle.switch_plan.specs.declared.fault.PlanFault.TheVariants.{Table, Captur
 use Rattle.switch_plan.specs.declared.plan.Plan.{Plan}
 use Rattle.switch_plan.specs.Traffic.{file_of, is_nano, pace_of, traffic_of}
 use Rattle.switch_plan.specs.Totals.{total_aside, max_slots_of, sizes_for, body_room_for, packet_room_for}
-use Rattle.switch_plan.specs.Refusals.{IsRefusal, first_link, limits_for, mixed_links, over_limits, refusal_of, terms_of}
+use Rattle.switch_plan.specs.Refusals.{IsRefusal, first_link, limits_for, mixed_links, over_traffic, refusal_of, terms_of}
 use Rattle.switch_plan.specs.ReadingSteps.{AreCapturesOf, IsCaptureOf}
 use Rattle.switch_plan.specs.PortSteps.{is_long}
 use Rattle.switch_plan.specs.JobSteps.{packets_of_ports, IsCardOfPort, IsPlanWith, IsJobPlan}
@@ -112,7 +112,7 @@ plan_of_captures settings table captures limits some few routes read allowed =
     let files = map file_of captures in
     let pace = pace_of settings.speed files in
     let unmixed = first_none (mixed_links files)
-    (over_limits (limits_for settings.long (length files)) (traffic_of table (first_link files) settings.speed files)) allowed in
+    (over_traffic (limits_for settings.long (length files)) (traffic_of table (first_link files) settings.speed files)) allowed in
     let ports = port_plans (length captures) few table pace routes captures read in
     plan_of_ports ports.0 (record {
       count = refl;
