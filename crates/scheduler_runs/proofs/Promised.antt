@@ -4,6 +4,7 @@ use Rattle.std.specs.List.{range_with_len}
 use Rattle.std.specs.Prelude.{◌<◌, ◌≤◌, slice_index}
 use Rattle.std.proofs.lemmas.List.FromFn.{length-map-range_with_len, get_or-map-range_with_len}
 use Rattle.std_lemmas.proofs.Ranges.{middle}
+use Rattle.scheduler_names.specs.declared.names.SchedulerName.TheVariants.{Firm}
 use Rattle.rotating_pick.specs.declared.limits.TheConstants.{LEVELS}
 use Rattle.slot_report.specs.declared.summary.Summary.{Summary}
 use Rattle.rotating_pick.specs.declared.kinds.Kind.TheVariants.{Uni}
@@ -15,16 +16,18 @@ use Rattle.service_bound.specs.Windows.{IsWindowBy, InFirst, places_after}
 use Rattle.service_bound.proofs.PartsOfSchedules.{part_is_window_by}
 use Rattle.firm_rounds.specs.Slots.{AreMovedByFirm}
 use Rattle.firm_rounds.specs.Decisions.{firm_decision}
-use Rattle.firm_rounds.proofs.InTime.{firm_longest_wait, firm_served_in_time}
+use Rattle.firm_rounds.proofs.InTime.{firm_longest_wait, firm_served_in_time, firm_quiet_served_in_time}
 use Rattle.firm_rounds.proofs.PointersKept.{firm_keep}
 use Rattle.switch_plan.specs.GoodPlans.{SwitchPlan, IsGood}
 use Rattle.run_laws.specs.Runs.{ports_of, setup_for, posts_under}
 use Rattle.run_laws.specs.Ends.{IsLengthUnder}
 use Rattle.run_laws.specs.Sums.{schedule_under}
 use Rattle.run_laws.specs.Promises.{ServesUnder, WaitsUnder}
+use Rattle.run_laws.specs.InTime.{ServesInTimeUnder}
 use Rattle.run_laws.proofs.Arrivals.{arrivals_first}
 use Rattle.run_laws.proofs.BusySlots.{busy_matches}
 use Rattle.run_laws.proofs.Emptied.{packets_delivered}
+use Rattle.run_laws.proofs.InTime.{serves-in_time_by}
 use Rattle.run_laws.proofs.OfFlows.{all_of_flows}
 use Rattle.run_laws.proofs.RunEnds.{run_bound}
 use Rattle.run_laws.proofs.RunSchedule.{run-schedule, run-within, run-kept}
@@ -32,7 +35,7 @@ use Rattle.run_laws.proofs.RunWindows.{begins, in_first, best-window, best-alone
 use Rattle.run_outcomes.proofs.Counted.{counted-once}
 use Rattle.run_outcomes.specs.Outcomes.{longest_under, summary_under}
 use Rattle.scheduler_runs.specs.FirmRuns.{IsFirmRun, HasShortWaits, FirmPromises}
-use Rattle.scheduler_runs.proofs.Completing.{completes-firm}
+use Rattle.scheduler_runs.proofs.Completing.{completes-firm, completes-in_time_under_each}
 use Rattle.named_schedulers.proofs.SecondScheduler.{IsSchedulerBy-firm_decision, IsScheduler-firm_decision}
 
 module _ (plan : SwitchPlan) (good : IsGood plan) (slots : ℕ) where
@@ -58,6 +61,13 @@ module _ (plan : SwitchPlan) (good : IsGood plan) (slots : ℕ) where
       (subst (InFirst (λ rows. Names (row_of rows i) level Uni j)) (sym is)
       (in_first (λ rows. Names (row_of rows i) level Uni j) slot first count there)) (omega (arith, long))
 
+  -- within that number of slots, or before the end, also where only its output is asked for nothing better
+  firm-serves_in_time : IsLengthUnder firm_decision plan slots → ServesInTimeUnder firm_decision plan slots (ports_of plan * ports_of plan)
+  firm-serves_in_time =
+      serves-in_time_by AreMovedByFirm firm_decision plan (ports_of plan * ports_of plan) IsScheduler-firm_decision IsSchedulerBy-firm_decision
+      (firm_keep (ports_of plan)) good
+      (λ t level i j places part. firm_quiet_served_in_time (ports_of plan) plan.rounds t level i j places part good.rounds.some) slots
+
   -- no wait of the best level is longer
   firm-waits : WaitsUnder firm_decision plan slots (ports_of plan * ports_of plan)
   firm-waits level best =
@@ -73,8 +83,10 @@ module _ (plan : SwitchPlan) (good : IsGood plan) (slots : ℕ) where
     arrivals = arrivals_first firm_decision plan slots ends;
     counts = counted-once firm_decision plan slots good ends;
     serves = firm-serves;
+    serves_in_time = firm-serves_in_time ends;
     waits = firm-waits;
     completes = completes-firm plan slots good;
+    completes_in_time = completes-in_time_under_each Firm plan slots good ends;
     few_slots = run_bound firm_decision IsScheduler-firm_decision plan good slots ends;
     busy_slots = λ i t inside busy. busy_matches firm_decision IsScheduler-firm_decision plan good i t inside busy;
   }

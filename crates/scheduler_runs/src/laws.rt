@@ -15,6 +15,7 @@ ghost use Rattle.switch_plan.specs.GoodPlans.{SwitchPlan, IsGood};
 ghost use Rattle.run_laws.specs.Runs.{ports_of};
 ghost use Rattle.run_laws.specs.Ends.{IsLengthUnder};
 ghost use Rattle.run_laws.specs.Sums.{schedule_under};
+ghost use Rattle.run_laws.specs.InTime.{CompletesInTimeUnder};
 ghost use Rattle.run_laws.specs.Promises.{CompletesUnder};
 ghost use Rattle.scheduler_runs.specs.FirmRuns.{FirmPromises};
 
@@ -44,9 +45,17 @@ pub fn multicast_completes_under_each()
     ensures { (name : SchedulerName) (plan : SwitchPlan) (slots : ℕ) → IsGood plan → CompletesUnder (decision_named name) plan slots }
 {}
 
+/// Under each scheduler, in a run of any length, a multicast head that is posted completes within `2 * n` slots, or before the
+/// run's end, where nothing of a better level is posted in these.
+pub fn multicast_completes_in_time_under_each()
+    ensures { (name : SchedulerName) (plan : SwitchPlan) (slots : ℕ) → IsGood plan → IsLengthUnder (decision_named name) plan slots
+        → CompletesInTimeUnder (decision_named name) plan slots }
+{}
+
 /// The run under the second scheduler delivers each admitted packet once and in order, and no other. All packets arrive before its end, and each
 /// is counted once. While nothing of a better level is posted, a unicast queue that is posted is served within `n * n`
-/// slots, where no multicast of its level is posted, and a multicast head that is posted completes within `2 * n`.
+/// slots, where no multicast of its level is posted, and a multicast head that is posted completes within `2 * n`. Or
+/// before the run's end; and for the queue it is enough that its output is asked for nothing else.
 /// The run has no more slots than the greatest number of arrival slots, the cells of the admitted packets counted
 /// for each output, and one; and a slot in which some row is not empty matches a pair.
 pub fn runs_are_as_promised()

@@ -17,12 +17,14 @@ use Rattle.switch_plan.specs.GoodPlans.{SwitchPlan, IsBurst}
 use Rattle.scheduler_names.specs.declared.names.SchedulerName.{SchedulerName}
 use Rattle.scheduler_names.specs.declared.names.SchedulerName.TheVariants.{Islip, Firm, Rrm}
 use Rattle.eslip_rounds.specs.Schedulers.{Scheduler}
+use Rattle.service_bound.specs.Waits.{longest_service_by}
 use Rattle.firm_rounds.specs.Decisions.{firm_decision}
 use Rattle.named_schedulers.specs.Named.{decision_named}
 use Rattle.run_laws.specs.Runs.{ports_of}
 use Rattle.run_laws.specs.Ends.{IsLengthUnder}
 use Rattle.run_laws.specs.Promises.{ArrivalsComeFirst, BusySlotsMatchUnder, CompletesUnder, DeliversNoOthersUnder, DeliversUnder, HasFewSlotsUnder}
 use Rattle.run_laws.specs.Promises.{ServesUnder, WaitsUnder, bound_of}
+use Rattle.run_laws.specs.InTime.{CompletesInTimeUnder, ServesInTimeUnder}
 use Rattle.run_outcomes.specs.Outcomes.{summary_under, CountsPacketsOnce}
 use Rattle.run_outcomes.specs.Departures.{InterleavesFlowsUnder}
 use Rattle.buffer_sizing.specs.Sizing.{IsSized}
@@ -179,6 +181,12 @@ bound_named Islip plan = Some (bound_of plan)
 bound_named Firm plan = Some (ports_of plan * ports_of plan)
 bound_named Rrm plan = None
 
+-- Within how many slots it is served, or before the run's end, where only its output is asked for nothing better.
+abbrev pub in_time_bound_named : SchedulerName → SwitchPlan → Option ℕ
+in_time_bound_named Islip plan = Some (longest_service_by (ports_of plan) plan.rounds)
+in_time_bound_named Firm plan = Some (ports_of plan * ports_of plan)
+in_time_bound_named Rrm plan = None
+
 -- At the end of no slot has the run fed more cells to an output than the ideal switch has given out.
 abbrev pub IsNeverAhead : Scheduler → SwitchPlan → ℕ → Type 0
 IsNeverAhead scheduler plan slots = (j t : ℕ) → t ≤ slots
@@ -204,8 +212,10 @@ pub record RunPromises (name : SchedulerName) (plan : SwitchPlan) (slots : ℕ) 
   pub interleaves : InterleavesFlowsUnder (decision_named name) plan slots
   pub counts : CountsPacketsOnce (summary_under (decision_named name) plan slots)
   pub serves : (bound : ℕ) → bound_named name plan ≡ Some bound → ServesUnder (decision_named name) plan slots bound
+  pub serves_in_time : (bound : ℕ) → in_time_bound_named name plan ≡ Some bound → ServesInTimeUnder (decision_named name) plan slots bound
   pub waits : (bound : ℕ) → bound_named name plan ≡ Some bound → WaitsUnder (decision_named name) plan slots bound
   pub completes : CompletesUnder (decision_named name) plan slots
+  pub completes_in_time : CompletesInTimeUnder (decision_named name) plan slots
   pub few_slots : HasFewSlotsUnder (decision_named name) plan slots
   pub busy_slots : BusySlotsMatchUnder (decision_named name) plan
   pub never_ahead : IsNeverAhead (decision_named name) plan slots

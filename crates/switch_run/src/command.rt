@@ -160,7 +160,9 @@ fn end_of<R: Threads + Sync, F: Files, G: Gate + Sync>(
 /// packet arrives before the run's end and is counted once; a unicast queue that is posted is served, where nothing
 /// better is posted and no multicast of its level, within `longest_service_at_line_rate()` slots of `service_bound`
 /// under `islip` and within `n * n` slots of `n` ports under `firm`, while none is promised for `rrm`; a multicast head
-/// completes within twice as many slots as there are ports, where nothing better is posted; it has no more slots than
+/// completes within twice as many slots as there are ports, where nothing better is posted; each of these also holds of a
+/// run that ends before, in which what waits is served by its end, and for a queue only its own output counts (then
+/// within `longest_service()` slots under `islip`); it has no more slots than
 /// the greatest number of arrival slots, the cells of the admitted packets counted for each output, and one; and an
 /// ideal switch whose queues stand at the outputs is never behind it, serves as many cells in all, and ends no later. A
 /// journal that was written is one that a `check` job of the same scheduler finds lawful, and of which it tells the
@@ -189,8 +191,10 @@ pub fn switch_main<R: Threads + Sync, F: Files, G: Gate + Sync>(
 {
     deliveries::admitted_packets_are_delivered();
     waits::waiting_queues_are_served();
+    waits::waiting_queues_are_served_in_time();
     waits::best_level_waits_are_short();
     second_runs::multicast_completes_under_each();
+    second_runs::multicast_completes_in_time_under_each();
     schedulers::each_is_a_scheduler();
     ends::runs_end();
     ends::busy_slots_match();

@@ -6,7 +6,7 @@ use Rattle.switch_run.specs.Endings.{Command, command_of}
 use Rattle.switch_run.proofs.Answering.{none_of, run_ends, run_good, run_plan, too_long_exact, usage_exact}
 use Rattle.switch_run.proofs.Refusing.{journal_exact, packets_exact, refusal_exact}
 use Rattle.switch_run.proofs.Completing.{complete}
-use Rattle.switch_run.proofs.Bounds.{serves_named, waits_named}
+use Rattle.switch_run.proofs.Bounds.{serves_in_time_named, serves_named, waits_named}
 use Rattle.switch_run.proofs.Checking.{check_exact}
 use Rattle.switch_run.proofs.MadeInputs.{gen_exact}
 use Rattle.switch_run.proofs.DoneRuns.{has_run}
@@ -53,8 +53,10 @@ returns g c =
             interleaves = c.flows_are_interleaved.ensures scheduler plan slots fair good ends;
             counts = c.packets_are_counted_once.ensures scheduler plan slots good ends;
             serves = serves_named name plan slots ends (c.waiting_queues_are_served.ensures plan slots good) firm;
+            serves_in_time = serves_in_time_named name plan slots ends (c.waiting_queues_are_served_in_time.ensures plan slots good) firm;
             waits = waits_named name plan slots ends (c.best_level_waits_are_short.ensures plan slots good) firm;
             completes = c.multicast_completes_under_each.ensures name plan slots good;
+            completes_in_time = c.multicast_completes_in_time_under_each.ensures name plan slots good ends;
             few_slots = c.runs_end.ensures.bound scheduler plan slots fair good ends;
             busy_slots = c.busy_slots_match.ensures scheduler plan fair good;
             never_ahead = λ j t. c.reference_is_never_behind.ensures scheduler plan slots j t fair good;
