@@ -1,2 +1,0 @@
-pub mod FedSlots
-pub mod Counts

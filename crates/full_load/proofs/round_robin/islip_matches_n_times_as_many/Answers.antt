@@ -1,5 +1,0 @@
-use Rattle.full_load.proofs.Synchronised.{pairs_of_both}
-use Rattle.full_load.proofs.round_robin.islip_matches_n_times_as_many.Goals as goal
-
-pub returns : goal.returns
-returns c = pairs_of_both

@@ -1,9 +1,0 @@
-use Rattle.line_rate_waits.proofs.FirmMoreLast.{firm_comes_in_more_rounds}
-use Rattle.line_rate_waits.proofs.FirmMoreFew.{firm_comes_with_few_ports}
-use Rattle.line_rate_waits.proofs.laws.firm_is_reached_in_more_rounds_by_cells.Goals as goal
-
-pub returns-clause-square : goal.returns-clause-square
-returns-clause-square c = firm_comes_in_more_rounds
-
-pub returns-clause-one_less : goal.returns-clause-one_less
-returns-clause-one_less c = firm_comes_with_few_ports

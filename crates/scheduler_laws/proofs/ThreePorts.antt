@@ -1,0 +1,138 @@
+-- The schedule of three ports with two rounds or more at line rate: eleven slots, in which a request is served as late as can
+-- be. It is that of the family but for the slots in which a request of input 2 for output 2 is made to wait.
+use Rattle.std.proofs.Common.{◌≡◌, ℕ, ◌+◌, ◌<◌, ◌≤◌, List, [], ◌∷◌, ◌∙◌, refl, inl, inr, arith}
+use Rattle.pointer_state.specs.Places.{Places, grant_of, accept_of}
+use Rattle.service_bound.proofs.PostedRuns.{IsSwitch}
+use Rattle.scheduler_laws.proofs.Plans.{Plan}
+use Rattle.scheduler_laws.proofs.PlannedRuns.{IsLateBy-before, IsLateBy-last}
+use Rattle.scheduler_laws.proofs.ManySlots.{decided_in, IsSwitch-after_in, many_step_of, left_by_input}
+use Rattle.scheduler_laws.proofs.Shapes.{takes, ends, passes, wins, suits_takes, suits_ends, suits_wins}
+use Rattle.scheduler_laws.proofs.MoreShapes.{closes, joins}
+use Rattle.scheduler_laws.proofs.ThreeShapes.{meets, waits, leaves, returns_to, suits_meets, suits_waits, suits_leaves, suits_returns}
+use Rattle.scheduler_laws.proofs.ThreeShapes.{wins_meets, meets_closes, joins_waits, waits_leaves, leaves_returns, returns_closes}
+use Rattle.scheduler_laws.proofs.ThreeShapes.{settles_meets, settles_waits, settles_leaves, settles_returns}
+use Rattle.scheduler_laws.proofs.Settled.{settles_takes, settles_ends, settles_wins}
+use Rattle.scheduler_laws.proofs.Followings.{passes_takes, takes_ends}
+use Rattle.scheduler_laws.proofs.MoreFollowings.{closes_joins, closes_passes}
+use Rattle.scheduler_laws.proofs.MoreRoundsFamily.{IsBase, IsLateIn, late_closes, late_joins, late_passes}
+
+-- the last six slots
+abbrev rest_of : List Plan
+rest_of = leaves ∷ returns_to ∷ closes 2 2 1 0 ∷ passes 2 ∷ takes 0 2 ∷ ends 0 ∷ []
+
+-- those after the second
+abbrev falls : List Plan
+falls = closes 2 2 1 1 ∷ joins 1 1 ∷ waits ∷ rest_of
+
+-- all eleven
+abbrev pub three : List Plan
+three = wins 1 2 ∷ meets ∷ falls
+
+-- ---- the pointers along them
+-- the last two slots
+late_last : (rounds t : ℕ) (places : Places) → 1 < rounds → IsBase 3 places 3 3 3 2 → accept_of places 0 0 ≡ 2
+    → IsLateIn rounds 3 t places (takes 0 2 ∷ ends 0 ∷ [])
+late_last rounds t places two base at =
+    let it = takes 0 2 in
+    let suits = suits_takes 3 places 0 2 (omega arith) (omega arith) (omega arith) (inl refl) at in
+    let step = many_step_of rounds 3 t places it (omega arith) base.switch suits (omega arith) in
+    let after = (decided_in rounds 3 t places it).places in
+    let switch = IsSwitch-after_in rounds 3 t places it base.switch in
+    let grant : grant_of after 0 0 ≡ 0 = step.grant_stays 0 (λ i is. elim is [ inl s ↦ let e = s.1 in omega arith | inr none ↦ none ]) ∙ base.grant in
+    let ending = many_step_of rounds 3 (t + 1) after (ends 0) (omega arith) switch (suits_ends 3 after 0 (omega arith) grant) (omega arith) in
+    IsLateBy-before 3 (decided_in rounds 3) t places it (ends 0 ∷ []) (step.serving (settles_takes 2)) (takes_ends 2 (omega arith))
+    (left_by_input rounds 3 t places it (omega arith) base.switch suits (omega arith) 2 (omega arith) (inl (refl, refl)))
+    (IsLateBy-last 3 (decided_in rounds 3) (t + 1) after (ends 0) (ending.serving (settles_ends 0)) (inl (refl, refl)))
+
+-- the slot in which input 2 takes output 1 while its request for output 2 waits, and those after it
+late_returns : (rounds t : ℕ) (places : Places) → 1 < rounds → IsSwitch 3 places → grant_of places 0 0 ≡ 2 → accept_of places 0 0 ≡ 2
+    → grant_of places 2 0 ≡ 0 → accept_of places 2 0 ≡ 0 → IsLateIn rounds 3 t places (returns_to ∷ closes 2 2 1 0 ∷ passes 2 ∷ takes 0 2 ∷ ends 0 ∷ [])
+late_returns rounds t places two switch grant at granting other =
+    let it = returns_to in
+    let suits = suits_returns places at granting other in
+    let step = many_step_of rounds 3 t places it (omega arith) switch suits (omega arith) in
+    let after = (decided_in rounds 3 t places it).places in
+    let later = passes 2 ∷ takes 0 2 ∷ ends 0 ∷ [] in
+    let next : IsBase 3 after 2 2 2 2 = record {
+      switch = IsSwitch-after_in rounds 3 t places it switch;
+      grant = step.grant_stays 0
+          (λ i is. elim is [ inl s ↦ let e = s.1 in omega arith | inr more ↦ elim more [ inl s ↦ let e = s.1 in omega arith | inr none ↦ none ] ]) ∙ grant;
+      fresh = λ i i_low i_high. absurd (omega arith);
+    } in
+    IsLateBy-before 3 (decided_in rounds 3) t places it (closes 2 2 1 0 ∷ later) (step.serving settles_returns) returns_closes
+    (left_by_input rounds 3 t places it (omega arith) switch suits (omega arith) 2 (omega arith) (inl (refl, refl)))
+    (late_closes rounds 3 2 two refl (omega arith) 2 2 2 1 0 (t + 1) after later (omega arith) (omega arith) (omega arith) (omega arith) (omega arith)
+    (inl refl) next (step.accepted 2 1 (inr (inl (refl, refl)))) (step.granted 2 1 (inr (inl (refl, refl)))) (closes_passes 2 2 1 (omega arith) (omega arith))
+    (λ after base last. late_passes rounds 3 2 two refl (omega arith) 2 (t + 1 + 1) after (takes 0 2 ∷ ends 0 ∷ []) (omega arith)
+    (omega arith) base.switch base.grant (passes_takes 2 (omega arith))
+    (λ after base at. late_last rounds (t + 1 + 1 + 1) after two base at)))
+
+-- the slot in which input 1 takes output 0, and those after it
+late_leaves : (rounds t : ℕ) (places : Places) → 1 < rounds → IsSwitch 3 places → grant_of places 0 0 ≡ 1 → IsLateIn rounds 3 t places rest_of
+late_leaves rounds t places two switch grant =
+    let it = leaves in
+    let suits = suits_leaves places grant in
+    let step = many_step_of rounds 3 t places it (omega arith) switch suits (omega arith) in
+    let after = (decided_in rounds 3 t places it).places in
+    IsLateBy-before 3 (decided_in rounds 3) t places it (returns_to ∷ closes 2 2 1 0 ∷ passes 2 ∷ takes 0 2 ∷ ends 0 ∷ [])
+    (step.serving settles_leaves) leaves_returns
+    (left_by_input rounds 3 t places it (omega arith) switch suits (omega arith) 1 (omega arith) (inr (inl (refl, refl))))
+    (late_returns rounds (t + 1) after two (IsSwitch-after_in rounds 3 t places it switch) (step.granted 1 0 (inl (refl, refl)))
+    (step.accepted 0 1 (inr (inl (refl, refl)))) (step.granted 2 2 (inr (inr (inl (refl, refl))))) (step.accepted 2 2 (inr (inr (inl (refl, refl))))))
+
+-- the slot in which a request of input 2 for output 2 waits, and those after it
+late_waits : (rounds t : ℕ) (places : Places) → 1 < rounds → IsSwitch 3 places → grant_of places 0 0 ≡ 1 → accept_of places 1 0 ≡ 2
+    → grant_of places 2 0 ≡ 0 → IsLateIn rounds 3 t places (waits ∷ rest_of)
+late_waits rounds t places two switch grant at held =
+    let it = waits in
+    let suits = suits_waits places grant at held in
+    let step = many_step_of rounds 3 t places it (omega arith) switch suits (omega arith) in
+    let after = (decided_in rounds 3 t places it).places in
+    let granting : grant_of after 0 0 ≡ 1 = step.grant_stays 0
+    (λ i is. elim is [ inl s ↦ let e = s.1 in omega arith | inr more ↦ elim more [ inl s ↦ let e = s.1 in omega arith | inr none ↦ none ] ]) ∙ grant in
+    IsLateBy-before 3 (decided_in rounds 3) t places it rest_of (step.serving settles_waits) waits_leaves
+    (left_by_input rounds 3 t places it (omega arith) switch suits (omega arith) 1 (omega arith) (inr (inl (refl, refl))))
+    (late_leaves rounds (t + 1) after two (IsSwitch-after_in rounds 3 t places it switch) granting)
+
+-- the slot in which input 2 takes output 1, and those after it
+late_meets : (rounds t : ℕ) (places : Places) → 1 < rounds → IsBase 3 places 1 1 3 1 → accept_of places 0 0 ≡ 2 → IsLateIn rounds 3 t places (meets ∷ falls)
+late_meets rounds t places two base at =
+    let it = meets in
+    let suits = suits_meets places at (base.fresh 2 (omega arith) (omega arith)) in
+    let step = many_step_of rounds 3 t places it (omega arith) base.switch suits (omega arith) in
+    let after = (decided_in rounds 3 t places it).places in
+    let next : IsBase 3 after 1 1 2 1 = record {
+      switch = IsSwitch-after_in rounds 3 t places it base.switch;
+      grant = step.grant_stays 0
+          (λ i is. elim is [ inl s ↦ let e = s.1 in omega arith | inr more ↦ elim more [ inl s ↦ let e = s.1 in omega arith | inr none ↦ none ] ]) ∙ base.grant;
+      fresh = λ i i_low i_high. step.accept_stays i
+          (λ j is. elim is [ inl s ↦ let e = s.0 in omega arith | inr more ↦ elim more [ inl s ↦ let e = s.0 in omega arith | inr none ↦ none ] ])
+          ∙ base.fresh i i_low (omega arith);
+    } in
+    IsLateBy-before 3 (decided_in rounds 3) t places it falls (step.serving settles_meets) meets_closes
+    (left_by_input rounds 3 t places it (omega arith) base.switch suits (omega arith) 2 (omega arith) (inl (refl, refl)))
+    (late_closes rounds 3 2 two refl (omega arith) 1 1 2 1 1 (t + 1) after (joins 1 1 ∷ waits ∷ rest_of) (omega arith) (omega arith) (omega arith)
+    (omega arith) (omega arith) (inr refl) next (step.accepted 2 1 (inr (inl (refl, refl)))) (step.granted 2 1 (inr (inl (refl, refl))))
+    (closes_joins 2 2 1 1 (omega arith) (omega arith) (omega arith) refl)
+    (λ after base last. late_joins rounds 3 2 two refl (omega arith) 1 1 1 (t + 1 + 1) after (waits ∷ rest_of) (omega arith) (omega arith) (omega arith)
+    (omega arith) (omega arith) base joins_waits
+    (λ after base at held stays. late_waits rounds (t + 1 + 1 + 1) after two base.switch base.grant at (stays 2 (λ e. omega arith) ∙ last))))
+
+-- where output 0 and all inputs point at port 1, and output 1 at port 0
+pub late_three : (rounds t : ℕ) (places : Places) → 1 < rounds → IsBase 3 places 1 1 3 1 → accept_of places 0 0 ≡ 1 → grant_of places 1 0 ≡ 0
+    → IsLateIn rounds 3 t places three
+late_three rounds t places two base at zero_at =
+    let first = wins 1 2 in
+    let suits = suits_wins 3 places 1 2 (omega arith) (omega arith) (omega arith) at zero_at in
+    let step = many_step_of rounds 3 t places first (omega arith) base.switch suits (omega arith) in
+    let after = (decided_in rounds 3 t places first).places in
+    let fresh : (i : ℕ) → 1 ≤ i → i < 3 → accept_of after i 0 ≡ 1 = λ i i_low i_high. step.accept_stays i
+    (λ j is. elim is [ inl s ↦ let e = s.0 in omega arith | inr none ↦ none ]) ∙ base.fresh i i_low i_high in
+    let next : IsBase 3 after 1 1 3 1 = record {
+      switch = IsSwitch-after_in rounds 3 t places first base.switch;
+      grant = step.grant_stays 0 (λ i is. elim is [ inl s ↦ let e = s.1 in omega arith | inr none ↦ none ]) ∙ base.grant;
+      fresh = fresh;
+    } in
+    IsLateBy-before 3 (decided_in rounds 3) t places first (meets ∷ falls) (step.serving (settles_wins 1 2)) wins_meets
+    (left_by_input rounds 3 t places first (omega arith) base.switch suits (omega arith) 1 (omega arith) (inl (refl, refl)))
+    (late_meets rounds (t + 1) after two next (step.accepted 0 1 (inl (refl, refl))))
