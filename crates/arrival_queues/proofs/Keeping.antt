@@ -1,9 +1,11 @@
 -- The fields of the queues of a switch, where a cell enters and where one leaves.
-use Rattle.std.proofs.Common.{◌≡◌, ◌≢◌, ◌∙◌, ◌↔◌, ◌⊎◌, ℕ, ◌+◌, ◌-◌, ◌*◌, ◌%◌, ◌^◌, ◌<◌, ◌≤◌, List, [], ◌∷◌, ◌++◌, Option, Some, None, IfSome, length, drop, map, nat_lt, slice_get}
+use Rattle.std.proofs.Common.{◌≡◌, ◌≢◌, ◌∙◌, ◌↔◌, ◌⊎◌, ℕ, ◌+◌, ◌-◌, ◌*◌, ◌%◌, ◌^◌, ◌<◌, ◌≤◌}
+use Rattle.std.proofs.Common.{List, [], ◌∷◌, ◌++◌, Option, Some, None, IfSome, length, drop, map, nat_lt, slice_get}
 use Rattle.std.proofs.Common.{slice_index_or, slice_set, replicate, refl, sym, ap, subst, inl, inr, arith}
 use Rattle.std.specs.List.{range_with_len}
 use Rattle.std.proofs.lemmas.Bool.{cases_eq, cond-false, cond-true, le-ltb, lt-ltb}
-use Rattle.std.proofs.lemmas.List.{get_or-map, get_or-set_other, get_or-set_same, get_or-replicate, length-map, length-replicate, length-set, map-set, nil_from_length, same_lists, set-get_or, set-set}
+use Rattle.std.proofs.lemmas.List.{get_or-map, get_or-set_other, get_or-set_same, get_or-replicate, length-map, length-replicate}
+use Rattle.std.proofs.lemmas.List.{length-set, map-set, nil_from_length, same_lists, set-get_or, set-set}
 use Rattle.std.proofs.lemmas.List.FromFn.{get_or-map-range_with_len, length-map-range_with_len, map-range_with_len_more}
 use Rattle.std.proofs.lemmas.Nat.{div-mul-add, mod-mul-add, same_from_place}
 use Rattle.std_lemmas.proofs.Lists.{get_or-same}
@@ -14,10 +16,12 @@ use Rattle.slot_match.specs.Rows.{Names, empty_row, row_of}
 use Rattle.arrival_queues.specs.declared.cell.ArrivedCell.{ArrivedCell}
 use Rattle.arrival_queues.specs.declared.queueing.Queueing.{Queueing}
 use Rattle.arrival_queues.specs.declared.queueing.Queueing.TheVariants.{ByPair, ByInput, ByOutput}
-use Rattle.arrival_queues.specs.Queues.{Queues, queue_at, queue_count, queue_of, queues_where, queues_with, queues_without_head, empty_queues, has_room, head_of, length_with, rows_of, held_count}
+use Rattle.arrival_queues.specs.Queues.{Queues, queue_at, queue_count, queue_of, queues_where, queues_with}
+use Rattle.arrival_queues.specs.Queues.{queues_without_head, empty_queues, has_room, head_of, length_with, rows_of, held_count}
 use Rattle.arrival_queues.specs.Queues.{sum_of_arrivals, IsInQueue, AreQueues, HasPorts}
 use Rattle.unicast_slots.specs.RowSteps.{AsksNoMore, AsksToo, rows_asking}
-use Rattle.arrival_queues.specs.FieldSteps.{QueueValue, cell_told, empty_queue, input_told, output_told, queue_made, port_untold, cells_of, queues_kept, AsksFor, HasEntered, IsOwn, AreKept}
+use Rattle.arrival_queues.specs.FieldSteps.{QueueValue, cell_told, empty_queue, input_told, output_told, queue_made}
+use Rattle.arrival_queues.specs.FieldSteps.{port_untold, cells_of, queues_kept, AsksFor, HasEntered, IsOwn, AreKept}
 use Rattle.arrival_queues.proofs.Changes.{AreQueues-with, AreQueues-without, at_same, queue_of-lt, rest_at}
 use Rattle.arrival_queues.proofs.Counts.{arrivals-empty, arrivals-with, arrivals-without, held-empty, held-with, held-without}
 use Rattle.arrival_queues.proofs.Asking.{rows-empty, rows-less, rows-more, rows-stay, rows-within}
@@ -279,7 +283,8 @@ module _ (n : ℕ) (queueing : Queueing) (depth : ℕ) where
           let emptied : fewer ≡ rows_of (after []) = rows-none fewer [] refl less in
           let long : q < length (after []).cells = omega (arith, in_all, length-set before.cells q []) in
           asks.1 ∙ ap (λ (all : List Row). rows_asking all next.input asks.0) emptied
-          ∙ rows-more (after []) q rest next asks.0 long (ap (λ (cells : List ArrivedCell). slice_get cells 0) (at_same before q [] in_all)) at own.input own.output
+          ∙ rows-more (after []) q rest next asks.0 long (ap (λ (cells : List ArrivedCell). slice_get cells 0) (at_same before q [] in_all)) at
+          own.input own.output
           own.place (subst (λ (all : List Row). (j : ℕ) → Has asks.0 j ↔ ((j ≡ next.output) ⊎ Names (row_of all next.input) 0 Uni j)) emptied asks.2)
           ∙ ap (λ (lists : List (List ArrivedCell)). rows_of (record before { cells = lists })) (set-set before.cells q [] rest)
 
@@ -321,11 +326,13 @@ queues-made queueing n depth =
     let made = map (queue_made queueing n depth) (range_with_len 0 count) in
     let long : length made ≡ count = length-map-range_with_len (queue_made queueing n depth) 0 count in
     ap (λ (lists : List (List ArrivedCell)). let queues : Queues = record { ports = n; queueing = queueing; depth = depth; cells = lists } in queues)
-    (same_lists (cells_of made) (replicate count []) (length-map made (λ (queue : QueueValue). queue.cells) ∙ long ∙ sym (length-replicate {A = List ArrivedCell} count []))
+    (same_lists (cells_of made) (replicate count []) (length-map made (λ (queue : QueueValue). queue.cells) ∙ long ∙ sym
+    (length-replicate {A = List ArrivedCell} count []))
     (λ k d inside.
     let k_in : k < count = omega (arith, length-map made (λ (queue : QueueValue). queue.cells), long, inside) in
     get_or-map (λ (queue : QueueValue). queue.cells) made k (queue_made queueing n depth k) d (omega arith)
-    ∙ ap (λ (queue : QueueValue). queue.cells) (get_or-map-range_with_len (queue_made queueing n depth) 0 count k k (queue_made queueing n depth k) k_in (omega arith))
+    ∙ ap (λ (queue : QueueValue). queue.cells) (get_or-map-range_with_len (queue_made queueing n depth) 0 count k k (queue_made queueing n depth k)
+    k_in (omega arith))
     ∙ sym (get_or-replicate count k [] d k_in)))
 
 pub AreKept-made : (queueing : Queueing) (n depth : ℕ) → 0 < n → n ≤ 64 → queue_count queueing n * depth ≤ 67108864

@@ -1,7 +1,8 @@
 ghost use Rattle.std.specs.Prelude.{◌≡◌, ◌≢◌, ◌*◌, ◌^◌, ◌<◌, ◌≤◌, length, map, IfOk, IfSome};
 ghost use Rattle.std.specs.List.{range_with_len};
 ghost use Rattle.slot_match.specs.Rows.{AreWithin};
-ghost use Rattle.arrival_queues.specs.Queues.{AreQueues, HasPorts, empty_queues, head_of, held_count, length_with, queue_count, queue_for, queue_of, queues_with, queues_without_head, rows_of, sum_of_arrivals};
+ghost use Rattle.arrival_queues.specs.Queues.{AreQueues, HasPorts, empty_queues, head_of, held_count, length_with};
+ghost use Rattle.arrival_queues.specs.Queues.{queue_count, queue_for, queue_of, queues_with, queues_without_head, rows_of, sum_of_arrivals};
 ghost use Rattle.unicast_slots.specs.RowSteps.{AsksToo};
 ghost use Rattle.arrival_queues.specs.FieldSteps.{AsksFor, input_told, output_told, port_untold, queue_made};
 

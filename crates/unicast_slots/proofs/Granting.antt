@@ -76,6 +76,7 @@ AreOpen-granted n rows places before offers at_ports ports o =
       apart = λ i k j i_has k_has a b.
           let f = ((o.listed i j i_has).0 a).0 in
           let g = ((o.listed k j k_has).0 b).0 in
-          let from_in : grant_of places j 0 < n = let below = (at_ports.pointing 0 (omega arith)).grant j (let out = f.output_in in omega arith) in omega arith in
+          let from_in : grant_of places j 0 < n = let below = (at_ports.pointing 0 (omega arith)).grant j (let out = f.output_in in omega arith) in
+          omega arith in
           IsFirstFrom-only n (grant_of places j 0) (λ x. IsFreeInput before x × Names (row_of rows x) 0 Uni j) i k from_in f.first g.first;
     }

@@ -1,5 +1,6 @@
 -- Rows that are kept by columns, and a change of one of them.
-use Rattle.std.proofs.Common.{◌≡◌, ◌≢◌, ℕ, zero, suc, ◌<◌, ◌≤◌, ◌↔◌, ◌⊎◌, ◌∙◌, List, length, slice_index, slice_set, replicate, refl, sym, ap, subst, inl, inr, arith}
+use Rattle.std.proofs.Common.{◌≡◌, ◌≢◌, ℕ, zero, suc, ◌<◌, ◌≤◌, ◌↔◌, ◌⊎◌, ◌∙◌, List}
+use Rattle.std.proofs.Common.{length, slice_index, slice_set, replicate, refl, sym, ap, subst, inl, inr, arith}
 use Rattle.std.proofs.Common.{length-set, get_or-set_same, get_or-set_other}
 use Rattle.std.proofs.lemmas.Bool.{cases_eq, cases_lt}
 use Rattle.std.proofs.lemmas.List.{get_or-replicate, get_or_past, length-replicate}
@@ -219,6 +220,7 @@ module _ (rows new : List Row) (columns after : List ℕ) (asked later : ℕ) (k
       (named-of column (
         λ has. ((named j).0 has).1 refl,
         λ some. (named j).1
-            ((kept.set.outputs j).1 (λ none. some (zero-no_members column (λ i has. zero-has (slice_index columns j) i none ((leaves.2 i).0 has).1))), λ same. some),
+            ((kept.set.outputs j).1 (λ none. some (zero-no_members column
+            (λ i has. zero-has (slice_index columns j) i none ((leaves.2 i).0 has).1))), λ same. some),
       )
       (λ k apart. (λ has. ((named k).0 has).0, λ old. (named k).1 (old, λ same. absurd (apart same))))))

@@ -26,6 +26,7 @@ returns-clause-entered c =
     rw (← c.self.view_is, c.in-Ok.ensures.ok, c.push_back.ensures.items) record {
       room = rw long room;
       longer = counted ∙ ap (λ n. n + 1) (sym long);
-      queue = ap (λ (cells : List ArrivedCell). let queue : QueueValue = record { queueing = s.queueing; input = s.input; output = s.output; depth = s.slots.capacity; cells = cells } in queue)
+      queue = ap (λ (cells : List ArrivedCell). let queue : QueueValue = record
+          { queueing = s.queueing; input = s.input; output = s.output; depth = s.slots.capacity; cells = cells } in queue)
           (told-entered s.input s.output s.queueing s.slots s.ports c.args.slot c.args.port c.self.invariant.beside room);
     }

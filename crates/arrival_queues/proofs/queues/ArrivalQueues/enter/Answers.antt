@@ -41,7 +41,8 @@ invariant_of-self-2 c =
     let inside = inside-kept s.ports s.queueing s.depth s.queues.items c.args.input c.args.output s.rows s.held s.arrivals c.self.invariant i_in j_in in
     let here = rw c.place_of-place.ensures.value at c.index_mut.ensures.value in
     rw (c.place_of-place.ensures.value, c.from.ensures)
-    (AreKept-entered s.ports s.queueing s.depth s.queues.items c.args.input c.args.output c.index_mut.result.now s.rows s.held s.arrivals c.self.invariant i_in j_in
+    (AreKept-entered s.ports s.queueing s.depth s.queues.items c.args.input c.args.output c.index_mut.result.now s.rows s.held s.arrivals
+    c.self.invariant i_in j_in
     inside here c.args.slot c.port_untold-port.result c.port_untold-port.ensures c.ranges.slot.fits c.enter.new.self c.in_ok-count.count
     c.ask_if_first.new.rows c.in_ok-count.ensures.entered c.ask_if_first.ensures.first c.ask_if_first.ensures.later)
 
@@ -53,6 +54,7 @@ returns-clause-queues c =
     let inside = inside-kept s.ports s.queueing s.depth s.queues.items c.args.input c.args.output s.rows s.held s.arrivals c.self.invariant i_in j_in in
     let here = rw c.place_of-place.ensures.value at c.index_mut.ensures.value in
     rw (c.place_of-place.ensures.value, ← c.self.view_is)
-    (view-entered s.ports s.queueing s.depth s.queues.items c.args.input c.args.output c.index_mut.result.now s.rows s.held s.arrivals c.self.invariant i_in j_in
+    (view-entered s.ports s.queueing s.depth s.queues.items c.args.input c.args.output c.index_mut.result.now s.rows s.held s.arrivals
+    c.self.invariant i_in j_in
     inside here c.args.slot c.port_untold-port.result c.port_untold-port.ensures c.ranges.slot.fits c.enter.new.self c.in_ok-count.count
     c.in_ok-count.ensures.entered)

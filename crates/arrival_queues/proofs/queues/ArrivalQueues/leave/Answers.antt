@@ -2,7 +2,8 @@ use Rattle.std.proofs.Common.{◌≡◌, ◌∙◌, ◌<◌, slice_get, ap, sym,
 use Rattle.std.proofs.lemmas.List.{get_or-set_same}
 use Rattle.arrival_queues.specs.Queues.{Queues}
 use Rattle.arrival_queues.specs.FieldSteps.{QueueValue}
-use Rattle.arrival_queues.proofs.Keeping.{AreKept-left, AreKept-none, arrivals-some, gone-in, gone-ports, held-some, inside-kept, length-rows, may_ask, next-below, view-left}
+use Rattle.arrival_queues.proofs.Keeping.{AreKept-left, AreKept-none, arrivals-some, gone-in, gone-ports}
+use Rattle.arrival_queues.proofs.Keeping.{held-some, inside-kept, length-rows, may_ask, next-below, view-left}
 use Rattle.arrival_queues.proofs.queues.ArrivalQueues.leave.Goals as goal
 
 pub invariant_of-self : goal.invariant_of-self
@@ -13,7 +14,8 @@ invariant_of-self c =
     let inside = inside-kept s.ports s.queueing s.depth s.queues.items c.args.input c.args.output s.rows s.held s.arrivals c.self.invariant i_in j_in in
     let here = rw c.place_of-place.ensures.value at c.index_mut.ensures.value in
     rw c.place_of-place.ensures.value
-    (AreKept-none s.ports s.queueing s.depth s.queues.items c.args.input c.args.output c.index_mut.result.now s.rows s.held s.arrivals c.self.invariant i_in j_in
+    (AreKept-none s.ports s.queueing s.depth s.queues.items c.args.input c.args.output c.index_mut.result.now s.rows s.held s.arrivals
+    c.self.invariant i_in j_in
     inside here c.leave.new.self c.leave.ensures.queue c.in_err-cell.ensures.value)
 
 pub returns-in_err-cell-clause-queues : goal.returns-in_err-cell-clause-queues
@@ -23,7 +25,8 @@ returns-in_err-cell-clause-queues c =
     let j_in : c.args.output < s.ports = subst (λ (all : Queues). c.args.output < all.ports) (sym c.self.view_is) c.requires.output in
     let inside = inside-kept s.ports s.queueing s.depth s.queues.items c.args.input c.args.output s.rows s.held s.arrivals c.self.invariant i_in j_in in
     let here = rw c.place_of-place.ensures.value at c.index_mut.ensures.value in
-    rw (c.place_of-place.ensures.value, ← c.self.view_is) (view-left s.ports s.queueing s.depth s.queues.items c.args.input c.args.output c.index_mut.result.now s.rows s.held s.arrivals c.self.invariant i_in j_in
+    rw (c.place_of-place.ensures.value, ← c.self.view_is) (view-left s.ports s.queueing s.depth s.queues.items c.args.input c.args.output
+    c.index_mut.result.now s.rows s.held s.arrivals c.self.invariant i_in j_in
     inside here c.leave.new.self c.leave.ensures.queue)
 
 pub ask_no_more-requires-clause-input : goal.ask_no_more-requires-clause-input
@@ -33,7 +36,8 @@ ask_no_more-requires-clause-input c =
     let j_in : c.args.output < s.ports = subst (λ (all : Queues). c.args.output < all.ports) (sym c.self.view_is) c.requires.output in
     let inside = inside-kept s.ports s.queueing s.depth s.queues.items c.args.input c.args.output s.rows s.held s.arrivals c.self.invariant i_in j_in in
     let here = rw c.place_of-place.ensures.value at c.index_mut.ensures.value in
-    let own = gone-in s.ports s.queueing s.depth s.queues.items c.args.input c.args.output c.index_mut.result.now s.rows s.held s.arrivals c.self.invariant i_in j_in
+    let own = gone-in s.ports s.queueing s.depth s.queues.items c.args.input c.args.output c.index_mut.result.now s.rows s.held s.arrivals
+    c.self.invariant i_in j_in
     inside here c.in_ok-cell.cell c.in_ok-cell.ensures.value in
     omega (arith, own.input, length-rows s.ports s.queueing s.depth s.queues.items s.rows s.held s.arrivals c.self.invariant)
 
@@ -44,7 +48,8 @@ ask_no_more-requires-clause-output c =
     let j_in : c.args.output < s.ports = subst (λ (all : Queues). c.args.output < all.ports) (sym c.self.view_is) c.requires.output in
     let inside = inside-kept s.ports s.queueing s.depth s.queues.items c.args.input c.args.output s.rows s.held s.arrivals c.self.invariant i_in j_in in
     let here = rw c.place_of-place.ensures.value at c.index_mut.ensures.value in
-    let own = gone-in s.ports s.queueing s.depth s.queues.items c.args.input c.args.output c.index_mut.result.now s.rows s.held s.arrivals c.self.invariant i_in j_in
+    let own = gone-in s.ports s.queueing s.depth s.queues.items c.args.input c.args.output c.index_mut.result.now s.rows s.held s.arrivals
+    c.self.invariant i_in j_in
     inside here c.in_ok-cell.cell c.in_ok-cell.ensures.value in
     omega (arith, own.output, c.self.invariant.whole.size)
 
@@ -55,7 +60,8 @@ ask_for-requires c =
     let j_in : c.args.output < s.ports = subst (λ (all : Queues). c.args.output < all.ports) (sym c.self.view_is) c.requires.output in
     let inside = inside-kept s.ports s.queueing s.depth s.queues.items c.args.input c.args.output s.rows s.held s.arrivals c.self.invariant i_in j_in in
     let here = rw c.place_of-place.ensures.value at c.index_mut.ensures.value in
-    let found : c.index.result.now ≡ c.leave.new.self = c.index.ensures ∙ get_or-set_same s.queues.items c.place_of-place.result c.leave.new.self _ (rw c.place_of-place.ensures.value inside) in
+    let found : c.index.result.now ≡ c.leave.new.self = c.index.ensures ∙ get_or-set_same s.queues.items c.place_of-place.result c.leave.new.self _
+    (rw c.place_of-place.ensures.value inside) in
     let second = c.head.ensures ∙ ap (λ (queue : QueueValue). slice_get queue.cells 0) found in
     may_ask s.ports s.rows c.ask_no_more.new.self c.in_ok-cell.cell.input c.in_ok-cell.cell.output c.head.result
     (length-rows s.ports s.queueing s.depth s.queues.items s.rows s.held s.arrivals c.self.invariant) c.self.invariant.whole.size c.ask_no_more.ensures
@@ -85,7 +91,8 @@ overflow_sub-self-2 c =
     omega (
       arith,
       c.from.ensures,
-      arrivals-some s.ports s.queueing s.depth s.queues.items c.args.input c.args.output c.index_mut.result.now s.rows s.held s.arrivals c.self.invariant i_in j_in
+      arrivals-some s.ports s.queueing s.depth s.queues.items c.args.input c.args.output c.index_mut.result.now s.rows s.held s.arrivals
+          c.self.invariant i_in j_in
           inside here c.in_ok-cell.cell c.in_ok-cell.ensures.value,
     )
 
@@ -96,7 +103,8 @@ returns-clause-queues c =
     let j_in : c.args.output < s.ports = subst (λ (all : Queues). c.args.output < all.ports) (sym c.self.view_is) c.requires.output in
     let inside = inside-kept s.ports s.queueing s.depth s.queues.items c.args.input c.args.output s.rows s.held s.arrivals c.self.invariant i_in j_in in
     let here = rw c.place_of-place.ensures.value at c.index_mut.ensures.value in
-    rw (c.place_of-place.ensures.value, ← c.self.view_is) (view-left s.ports s.queueing s.depth s.queues.items c.args.input c.args.output c.index_mut.result.now s.rows s.held s.arrivals c.self.invariant i_in j_in
+    rw (c.place_of-place.ensures.value, ← c.self.view_is) (view-left s.ports s.queueing s.depth s.queues.items c.args.input c.args.output
+    c.index_mut.result.now s.rows s.held s.arrivals c.self.invariant i_in j_in
     inside here c.leave.new.self c.leave.ensures.queue)
 
 pub returns-clause-ports : goal.returns-clause-ports
@@ -106,7 +114,8 @@ returns-clause-ports c =
     let j_in : c.args.output < s.ports = subst (λ (all : Queues). c.args.output < all.ports) (sym c.self.view_is) c.requires.output in
     let inside = inside-kept s.ports s.queueing s.depth s.queues.items c.args.input c.args.output s.rows s.held s.arrivals c.self.invariant i_in j_in in
     let here = rw c.place_of-place.ensures.value at c.index_mut.ensures.value in
-    rw (← c.self.view_is) (gone-ports s.ports s.queueing s.depth s.queues.items c.args.input c.args.output c.index_mut.result.now s.rows s.held s.arrivals c.self.invariant i_in j_in
+    rw (← c.self.view_is) (gone-ports s.ports s.queueing s.depth s.queues.items c.args.input c.args.output c.index_mut.result.now s.rows s.held
+    s.arrivals c.self.invariant i_in j_in
     inside here c.in_ok-cell.cell c.in_ok-cell.ensures.value)
 
 pub returns-clause-within : goal.returns-clause-within
@@ -116,7 +125,8 @@ returns-clause-within c =
     let j_in : c.args.output < s.ports = subst (λ (all : Queues). c.args.output < all.ports) (sym c.self.view_is) c.requires.output in
     let inside = inside-kept s.ports s.queueing s.depth s.queues.items c.args.input c.args.output s.rows s.held s.arrivals c.self.invariant i_in j_in in
     let here = rw c.place_of-place.ensures.value at c.index_mut.ensures.value in
-    let own = gone-in s.ports s.queueing s.depth s.queues.items c.args.input c.args.output c.index_mut.result.now s.rows s.held s.arrivals c.self.invariant i_in j_in
+    let own = gone-in s.ports s.queueing s.depth s.queues.items c.args.input c.args.output c.index_mut.result.now s.rows s.held s.arrivals
+    c.self.invariant i_in j_in
     inside here c.in_ok-cell.cell c.in_ok-cell.ensures.value in
     rw (← c.self.view_is) (own.input, own.output)
 
@@ -127,9 +137,11 @@ invariant_of-self-2 c =
     let j_in : c.args.output < s.ports = subst (λ (all : Queues). c.args.output < all.ports) (sym c.self.view_is) c.requires.output in
     let inside = inside-kept s.ports s.queueing s.depth s.queues.items c.args.input c.args.output s.rows s.held s.arrivals c.self.invariant i_in j_in in
     let here = rw c.place_of-place.ensures.value at c.index_mut.ensures.value in
-    let found : c.index.result.now ≡ c.leave.new.self = c.index.ensures ∙ get_or-set_same s.queues.items c.place_of-place.result c.leave.new.self _ (rw c.place_of-place.ensures.value inside) in
+    let found : c.index.result.now ≡ c.leave.new.self = c.index.ensures ∙ get_or-set_same s.queues.items c.place_of-place.result c.leave.new.self _
+    (rw c.place_of-place.ensures.value inside) in
     let second = c.head.ensures ∙ ap (λ (queue : QueueValue). slice_get queue.cells 0) found in
     rw (c.place_of-place.ensures.value, c.from.ensures)
-    (AreKept-left s.ports s.queueing s.depth s.queues.items c.args.input c.args.output c.index_mut.result.now s.rows s.held s.arrivals c.self.invariant i_in j_in
+    (AreKept-left s.ports s.queueing s.depth s.queues.items c.args.input c.args.output c.index_mut.result.now s.rows s.held s.arrivals
+    c.self.invariant i_in j_in
     inside here c.in_ok-cell.cell c.in_ok-cell.ensures.value c.leave.new.self c.head.result c.ask_no_more.new.self
     c.ask_for.new.rows c.leave.ensures.queue second c.ask_no_more.ensures c.ask_for.ensures)

@@ -7,4 +7,5 @@ pub invariant_of-self : goal.invariant_of-self
 invariant_of-self c =
     let s = c.self.inside in
     let input_in = subst (λ (rows : List Row). c.args.input < length rows) (sym c.self.view_is) c.requires.input in
-    AreKept-too s.rows.items _ s.columns _ s.asked _ c.self.invariant c.args.input c.args.output input_in c.requires.output c.ask.ensures c.enter.ensures.column c.enter.ensures.asked
+    AreKept-too s.rows.items _ s.columns _ s.asked _ c.self.invariant c.args.input c.args.output input_in c.requires.output c.ask.ensures
+    c.enter.ensures.column c.enter.ensures.asked
