@@ -1,7 +1,7 @@
 -- What a slot brings to the outputs: each takes the cell of the input that feeds it.
 use Rattle.std.proofs.Common.{◌≡◌, ◌≢◌, ◌∙◌, ℕ, ◌+◌, ◌^◌, ◌<◌, ◌≤◌, ◌↔◌, Bool, List, ◌++◌, map, length, set, Option, None, Some, refl, sym, ap, subst}
 use Rattle.std.proofs.Common.{arith, inl, inr}
-use Rattle.std.specs.Prelude.{slice_get, slice_index_or}
+use Rattle.std.specs.Prelude.{slice_get, slice_index_or, IfSome}
 use Rattle.std.proofs.lemmas.List.{get_or-map, length-append, length-map, length-set}
 use Rattle.std.proofs.lemmas.Option.{none-some, slice_get_within, slice_get-get_or}
 use Rattle.std_lemmas.proofs.Lists.{got_set}
@@ -83,7 +83,7 @@ module _ (scheduler : Scheduler) (plan : SwitchPlan) (t : ℕ) where
   come_nothing : (j : ℕ) (output : OutputValue) → AddsNothing scheduler plan j (t + 1) (t + 2) → HasCome scheduler plan (t + 1) j output
       → HasCome scheduler plan (t + 2) j output
   come_nothing j output adds come = record {
-    text = come.text ∙ ap (capture_text plan.nano plan.link) (sym adds.messages);
+    text = subst (λ messages. IfSome output.text (λ text. text ≡ capture_text plan.nano plan.link messages)) (sym adds.messages) come.text;
     packets = come.packets ∙ ap length (sym adds.messages);
     cells = come.cells ∙ ap length (sym adds.cells);
   }
@@ -95,9 +95,12 @@ module _ (scheduler : Scheduler) (plan : SwitchPlan) (t : ℕ) where
       let earlier = messages_under scheduler plan j (t + 1) in
       let added = messages_with card name in
       let more : earlier ++ added ≡ messages_under scheduler plan j (t + 2) = sym (adds.messages ∙ ap (λ c. earlier ++ messages_with c name) card-is) in
-      let own : before.text ≡ capture_text nano plan.link earlier = come.text ∙ ap (λ n. capture_text n plan.link earlier) (sym nano-is) in
+      let own : IfSome before.text (λ text. text ≡ capture_text nano plan.link earlier) =
+      subst (λ n. IfSome before.text (λ text. text ≡ capture_text n plan.link earlier)) (sym nano-is) come.text in
+      let now : IfSome after.text (λ text. text ≡ capture_text plan.nano plan.link (earlier ++ added)) =
+      subst (λ n. IfSome after.text (λ text. text ≡ capture_text n plan.link (earlier ++ added))) nano-is (taken.text plan.link earlier own) in
       record {
-        text = taken.text plan.link earlier own ∙ ap (λ n. capture_text n plan.link (earlier ++ added)) nano-is ∙ ap (capture_text plan.nano plan.link) more;
+        text = subst (λ messages. IfSome after.text (λ text. text ≡ capture_text plan.nano plan.link messages)) more now;
         packets = taken.packets ∙ ap (λ n. n + length added) come.packets ∙ sym (length-append earlier added) ∙ ap length more;
         cells = taken.cells ∙ ap (λ n. n + 1) come.cells ∙ sym adds.cells;
       }

@@ -1,7 +1,7 @@
 -- A switch that skips a gap: from the slot after an idle slot to the next in which a packet arrives.
 use Rattle.std.proofs.Common.{◌≡◌, ◌∙◌, ℕ, ◌+◌, ◌-◌, ◌<◌, ◌≤◌, ◌⊎◌, ◌++◌, false, List, All, length, map, Option}
 use Rattle.std.proofs.Common.{None, Some, refl, sym, ap, subst, arith, inl, inr}
-use Rattle.std.specs.Prelude.{slice_get, slice_index_or}
+use Rattle.std.specs.Prelude.{slice_get, slice_index_or, IfSome}
 use Rattle.std.specs.Option.{option_map, unwrap_or}
 use Rattle.std.proofs.lemmas.Bool.{cases_lt, cases_eq}
 use Rattle.std.proofs.lemmas.Option.{slice_get-get_or, slice_get_cases, slice_get_within, same_Some, none-some}
@@ -147,7 +147,7 @@ module _ (scheduler : Scheduler) (plan : SwitchPlan) (slot next : ℕ) (skipped 
 
   come : (j : ℕ) (output : OutputValue) → HasCome scheduler plan (slot + 1) j output → HasCome scheduler plan (next + 1) j output
   come j output was = record {
-    text = was.text ∙ ap (λ (all : List Cell). capture_text plan.nano plan.link (delivered all)) (cells j);
+    text = subst (λ (all : List Cell). IfSome output.text (λ text. text ≡ capture_text plan.nano plan.link (delivered all))) (cells j) was.text;
     packets = was.packets ∙ ap (λ (all : List Cell). length (delivered all)) (cells j);
     cells = was.cells ∙ ap (λ (all : List Cell). length all) (cells j);
   }

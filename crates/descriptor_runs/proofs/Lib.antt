@@ -18,4 +18,5 @@ pub mod CrossedCells
 pub mod ByPlaces
 pub mod NamesOf
 pub mod PostedInputs
+pub mod Keeping
 pub mod RunEnd

@@ -1,7 +1,7 @@
 -- What a switch that has made its run to the end leaves is what the run leaves.
-use Rattle.std.proofs.Common.{◌≡◌, ◌∙◌, ℕ, ◌+◌, ◌^◌, ◌<◌, ◌≤◌, false, List, length, map, Some, ap, arith}
-use Rattle.std.specs.Prelude.{slice_get}
-use Rattle.std.specs.List.{sum_by, range_with_len}
+use Rattle.std.proofs.Common.{◌≡◌, ◌∙◌, ℕ, ◌+◌, ◌^◌, ◌<◌, ◌≤◌, false, List, length, map, Some, ap, subst, arith}
+use Rattle.std.specs.Prelude.{slice_get, IfSome}
+use Rattle.std.specs.List.{filter_map, sum_by, range_with_len}
 use Rattle.std.proofs.lemmas.Option.{slice_get_within}
 use Rattle.std_lemmas.proofs.MappedSums.{sum_by-map, sum_of}
 use Rattle.std_lemmas.proofs.Sums.{range_sum-le}
@@ -24,14 +24,17 @@ use Rattle.run_outcomes.specs.Outcomes.{messages_under, admitted_count, dropped_
 use Rattle.run_outcomes.proofs.Counted.{counted-once}
 use Rattle.slot_records.specs.Slots.{AddsNothing}
 use Rattle.descriptor_runs.specs.InputSteps.{InputValue}
-use Rattle.descriptor_runs.specs.OutputSteps.{OutputValue, HasCome}
+use Rattle.descriptor_runs.specs.OutputSteps.{OutputValue, HasCome, AreKeeping}
 use Rattle.descriptor_runs.specs.SwitchSteps.{AreInputs, AreOutputs, IsBefore}
-use Rattle.descriptor_runs.specs.Outcomes.{capture_under, line_under}
+use Rattle.descriptor_runs.specs.Outcomes.{capture_under, captures_by, line_under}
 use Rattle.descriptor_runs.specs.FinishingSteps.{ArePlanNumbers, line_of}
 use Rattle.descriptor_runs.specs.declared.finishing.PlanNumbers.{PlanNumbers}
+use Rattle.descriptor_runs.specs.declared.outputs.Captures.{Captures}
+use Rattle.descriptor_runs.specs.declared.outputs.Captures.TheVariants.{Kept, Dropped}
 use Rattle.descriptor_runs.specs.declared.switch.Switch.{Switch}
 use Rattle.descriptor_runs.proofs.InputPorts.{count-inputs, plan-of}
 use Rattle.descriptor_runs.proofs.ByPlaces.{map_by_place}
+use Rattle.descriptor_runs.proofs.Keeping.{text_of, all_kept, none_kept, kept_is}
 use Rattle.descriptor_runs.proofs.CrossedCells.{cells_within}
 
 -- ---- the numbers of the inputs at the end of a run
@@ -77,14 +80,18 @@ module _ (scheduler : Scheduler) (plan : SwitchPlan) (slots : ℕ) (outputs : Li
       let none = nothing j (omega arith) in
       let has = are.come j output at in
       record {
-        text = has.text ∙ ap (capture_text plan.nano plan.link) none.messages;
+        text = subst (λ messages. IfSome output.text (λ text. text ≡ capture_text plan.nano plan.link messages)) none.messages has.text;
         packets = has.packets ∙ ap length none.messages;
         cells = has.cells ∙ ap length none.cells;
       }
 
-  pub captures_are : map (λ (output : OutputValue). output.text) outputs ≡ map (capture_under scheduler plan slots) (range_with_len 0 (ports_of plan))
-  captures_are = map_by_place (λ (output : OutputValue). output.text) (capture_under scheduler plan slots) outputs (ports_of plan) are.count
-      (λ j output at. (has_come j output at).text)
+  pub captures_are : (captures : Captures) → AreKeeping captures outputs
+      → filter_map (λ (output : OutputValue). output.text) outputs ≡ captures_by captures scheduler plan slots
+  captures_are Kept kept =
+      all_kept outputs kept
+      ∙ map_by_place text_of (capture_under scheduler plan slots) outputs (ports_of plan) are.count
+      (λ j output at. kept_is output.text (capture_under scheduler plan slots j) (kept j output at) (has_come j output at).text)
+  captures_are Dropped dropped = none_kept outputs dropped
 
   line_is : (j : ℕ) (output : OutputValue) → slice_get outputs j ≡ Some output → line_of output ≡ line_under scheduler plan slots j
   line_is j output at = let has = has_come j output at in let packets = has.packets in let cells = has.cells in cc

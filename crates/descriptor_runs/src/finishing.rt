@@ -1,11 +1,14 @@
-ghost use Rattle.std.specs.Prelude.{◌≡◌, ◌^◌, ◌<◌, ◌≤◌, List, IfOk, length, map, sum_by};
-ghost use Rattle.std.specs.List.{range_with_len};
+ghost use Rattle.std.specs.Prelude.{◌≡◌, ◌+◌, ◌^◌, ◌<◌, ◌≤◌, ◌++◌, List, IfOk, length, map, sum_by, vec_capacity};
+ghost use Rattle.std.specs.List.{filter_map, range_with_len};
+ghost use Rattle.std.specs.Option.{option_map, option_to_list};
 ghost use Rattle.service_bound.specs.Waits.{NotedSlot, longest_wait};
 ghost use Rattle.service_bound.specs.MeterSteps.{HasNoted};
 ghost use Rattle.eslip_rounds.specs.Schedulers.{Scheduler, IsScheduler};
 ghost use Rattle.switch_plan.specs.GoodPlans.{SwitchPlan, IsGood, IsCountable, switch_plan_of};
 ghost use Rattle.run_laws.specs.Ends.{IsLengthUnder};
+ghost use Rattle.descriptor_runs.specs.declared.outputs.Captures.{Captures};
 ghost use Rattle.descriptor_runs.specs.Outcomes.{IsRunOutcome};
+ghost use Rattle.descriptor_runs.specs.OutputSteps.{AreKeeping};
 ghost use Rattle.descriptor_runs.specs.FinishingSteps.{ArePlanNumbers, line_of};
 ghost use Rattle.descriptor_runs.specs.SwitchSteps.{IsBefore};
 
@@ -67,9 +70,10 @@ pub(crate) fn finish(
 ) -> Result<RunOutcome, OutOfMemory>
     requires { (scheduler : Scheduler) × (plan : SwitchPlan) × IsScheduler scheduler × IsGood plan × IsCountable plan × IsLengthUnder scheduler plan slots
         × (slots ≤ plan.max_slots) × ArePlanNumbers plan numbers.now × IsBefore scheduler plan slots switch }
-    ensures { IfOk result (λ outcome. (scheduler : Scheduler) (plan : SwitchPlan) → IsScheduler scheduler → IsGood plan → IsCountable plan
-        → IsLengthUnder scheduler plan slots → slots ≤ plan.max_slots → ArePlanNumbers plan numbers.now → IsBefore scheduler plan slots switch
-        → IsRunOutcome scheduler plan slots outcome) }
+    ensures { IfOk result (λ outcome. (captures : Captures) (scheduler : Scheduler) (plan : SwitchPlan) → IsScheduler scheduler → IsGood plan
+        → IsCountable plan → IsLengthUnder scheduler plan slots → slots ≤ plan.max_slots → ArePlanNumbers plan numbers.now
+        → IsBefore scheduler plan slots switch → AreKeeping captures switch.outputs.items
+        → IsRunOutcome captures scheduler plan slots outcome) }
 {
     runs_leave_nothing();
     slots_add_one_cell();
@@ -151,17 +155,30 @@ fn cells_in(lines: &[OutLine]) -> u32
     lines.iter().map(|line| line.cells).sum()
 }
 
-// The capture of each output, and how much came to it.
+// The captures of the outputs that keep theirs, and how much came to each output.
 fn leave(alloc: Global, outputs: Vec<Output>) -> Result<(Vec<Vec<u8>>, Vec<OutLine>), OutOfMemory>
-    ensures captures { IfOk result (λ left. map (λ capture. capture.items) left.0.items ≡ map (λ output. output.text) outputs.items) }
+    ensures captures { IfOk result (λ left. map (λ capture. capture.items) left.0.items ≡ filter_map (λ output. output.text) outputs.items) }
     ensures lines { IfOk result (λ left. left.1.items ≡ map line_of outputs.items) }
 {
     let mut captures = Vec::with_capacity(alloc, outputs.len())?;
     let mut lines = Vec::with_capacity(alloc, outputs.len())?;
     for output in outputs {
         let (text, line) = output.into_parts();
-        captures.push_reserved(text);
+        put_kept(&mut captures, text);
         lines.push_reserved(line);
     }
     Ok((captures, lines))
+}
+
+// Puts a capture that is kept behind the others, for which there is room.
+fn put_kept(captures: &mut Vec<Vec<u8>>, text: Option<Vec<u8>>)
+    requires room { length captures.old.items < vec_capacity captures.old }
+    ensures items { map (λ capture. capture.items) captures.new.items
+        ≡ map (λ capture. capture.items) captures.old.items ++ option_to_list (option_map (λ capture. capture.items) text) }
+    ensures count { length captures.new.items ≤ length captures.old.items + 1 }
+    ensures capacity { vec_capacity captures.new ≡ vec_capacity captures.old }
+{
+    if let Some(text) = text {
+        captures.push_reserved(text);
+    }
 }

@@ -1,7 +1,7 @@
 //! The run of a plan by packet descriptors, on one thread and under any of the schedulers.
 //!
 //! Queues keep the numbers of packets. No byte of a packet is touched until its last cell crosses: then its record is copied
-//! from the bytes of its input to the end of each output's capture.
+//! from the bytes of its input to the end of each output's capture, where captures are kept.
 #![tactic(auto)]
 
 mod cell_names;
@@ -15,4 +15,5 @@ mod running;
 mod serving;
 mod switch;
 
+pub use outputs::Captures;
 pub use running::{RunOutcome, run_by_descriptors};

@@ -8,10 +8,12 @@ ghost use Rattle.switch_plan.specs.GoodPlans.{SwitchPlan, IsGood, IsCountable, s
 ghost use Rattle.run_laws.specs.Ends.{IsLengthUnder};
 ghost use Rattle.run_laws.specs.Runs.{ports_of, posts_under};
 ghost use Rattle.descriptor_runs.specs.Outcomes.{IsRunOutcome};
+ghost use Rattle.descriptor_runs.specs.OutputSteps.{keeping};
 ghost use Rattle.descriptor_runs.specs.SwitchSteps.{IsBefore, IsDecided, IsActivity};
 
 use crate::finishing::{PlanNumbers, finish};
 use crate::noting::put_posts;
+use crate::outputs::Captures;
 use crate::switch::{Activity, Switch};
 use idle_slots::laws;
 use rotating_pick::OutOfMemory;
@@ -27,7 +29,7 @@ use switch_plan::Plan;
 pub struct RunOutcome {
     /// The numbers of the run.
     pub summary: Summary,
-    /// The capture of each output, by port.
+    /// The capture of each output, by port, or none where captures are dropped.
     pub captures: Vec<Vec<u8>>,
     /// How much came to each output, by port.
     pub lines: Vec<OutLine>,
@@ -40,19 +42,20 @@ pub fn run_by_descriptors<S: SlotSink>(
     alloc: Global,
     plan: Plan,
     scheduler: SchedulerName,
+    captures: Captures,
     sink: &mut S,
 ) -> Result<RunOutcome, OutOfMemory>
     requires good { IsGood (switch_plan_of plan) }
     requires countable { IsCountable (switch_plan_of plan) }
     requires noted { S.noted sink.old (decision_named scheduler) (switch_plan_of plan) 0 }
-    ensures run { IfOk result (λ outcome. (slots : ℕ) × IsRunOutcome (decision_named scheduler) (switch_plan_of plan) slots outcome
+    ensures run { IfOk result (λ outcome. (slots : ℕ) × IsRunOutcome captures (decision_named scheduler) (switch_plan_of plan) slots outcome
         × S.noted sink.new (decision_named scheduler) (switch_plan_of plan) slots) }
     ensures wanted { OnOk result (S.wanted sink.new ≡ S.wanted sink.old) }
 {
     laws::quiet_decisions();
     let max_slots = plan.max_slots;
     let numbers = PlanNumbers::of(&plan);
-    let mut switch = Switch::make(alloc, scheduler, plan)?;
+    let mut switch = Switch::make(alloc, scheduler, captures, plan)?;
     let slots = switch.run(max_slots, sink)?;
     finish(alloc, switch, &numbers, slots)
 }
@@ -70,6 +73,7 @@ impl Switch {
             → IsBefore scheduler plan 0 self.old → S.noted sink.old scheduler plan 0
             → IfOk result (λ slots. IsLengthUnder scheduler plan slots × IsBefore scheduler plan slots self.new
             × S.noted sink.new scheduler plan slots × (slots ≤ max_slots)) }
+        ensures kept { OnOk result (keeping self.new.outputs.items ≡ keeping self.old.outputs.items) }
         ensures wanted { OnOk result (S.wanted sink.new ≡ S.wanted sink.old) }
     {
         ends::runs_end();
@@ -91,6 +95,7 @@ impl Switch {
         ensures made { (scheduler : Scheduler) (plan : SwitchPlan) → IsScheduler scheduler → IsGood plan → IsBefore scheduler plan slot self.old
             → S.noted sink.old scheduler plan slot → IfOk result (λ activity. IsActivity scheduler plan slot activity
             × IsBefore scheduler plan (slot + 1) self.new × S.noted sink.new scheduler plan (slot + 1)) }
+        ensures kept { OnOk result (keeping self.new.outputs.items ≡ keeping self.old.outputs.items) }
         ensures wanted { OnOk result (S.wanted sink.new ≡ S.wanted sink.old) }
     {
         let activity = self.decide(slot);
@@ -106,6 +111,7 @@ impl Switch {
         ensures noted { (scheduler : Scheduler) (plan : SwitchPlan) → IsScheduler scheduler → IsGood plan → IsDecided scheduler plan slot self.old
             → S.noted sink.old scheduler plan slot
             → OnOk result (IsDecided scheduler plan slot self.new × S.noted sink.new scheduler plan (slot + 1)) }
+        ensures outputs { self.new.outputs ≡ self.old.outputs }
         ensures wanted { OnOk result (S.wanted sink.new ≡ S.wanted sink.old) }
     {
         if !sink.wants_slots() {
@@ -131,6 +137,7 @@ impl Switch {
             → is_done_before (ports_of plan) (posts_under scheduler plan) slot ≡ false → IsActivity scheduler plan t activity
             → IsBefore scheduler plan slot self.old → S.noted sink.old scheduler plan slot → IsBefore scheduler plan result self.new
             × (is_done_before (ports_of plan) (posts_under scheduler plan) result ≡ false) × S.noted sink.new scheduler plan result }
+        ensures outputs { self.new.outputs ≡ self.old.outputs }
         ensures wanted { S.wanted sink.new ≡ S.wanted sink.old }
     {
         match activity {
@@ -152,6 +159,7 @@ impl Switch {
         ensures going { (scheduler : Scheduler) (plan : SwitchPlan) → IsBefore scheduler plan slot self.old
             → is_done_before (ports_of plan) (posts_under scheduler plan) slot ≡ false
             → is_done_before (ports_of plan) (posts_under scheduler plan) result ≡ false }
+        ensures outputs { self.new.outputs ≡ self.old.outputs }
         ensures wanted { S.wanted sink.new ≡ S.wanted sink.old }
     {
         laws::idle_slots_change_nothing();

@@ -5,7 +5,7 @@ ghost use Rattle.card_core.specs.Plans.{IsGoodPlan};
 ghost use Rattle.eslip_rounds.specs.Schedulers.{Scheduler, IsScheduler};
 ghost use Rattle.switch_plan.specs.GoodPlans.{SwitchPlan, IsGood, IsCountable};
 ghost use Rattle.slot_records.specs.Slots.{match_under};
-ghost use Rattle.descriptor_runs.specs.OutputSteps.{HasTaken, messages_with};
+ghost use Rattle.descriptor_runs.specs.OutputSteps.{HasTaken, keeping, messages_with};
 ghost use Rattle.descriptor_runs.specs.SwitchSteps.{AreInputs, AreNames, AreOutputs, AreParts, AreGranted};
 
 use crate::cell_names::CellNames;
@@ -60,10 +60,11 @@ pub(crate) fn feed_outputs(
     requires { (scheduler : Scheduler) × (plan : SwitchPlan) × (slot : ℕ) × IsScheduler scheduler × IsGood plan × IsCountable plan
         × (slot < plan.max_slots) × (map (λ input. input.plan) inputs.now ≡ plan.cards) × AreGranted scheduler plan slot names.now
         × (matched.now ≡ match_under scheduler plan slot) × (nano ≡ plan.nano) × AreOutputs scheduler plan (slot + 1) outputs.old }
-    ensures { OnOk result ((scheduler : Scheduler) (plan : SwitchPlan) (slot : ℕ) → IsScheduler scheduler → IsGood plan
+    ensures fed { OnOk result ((scheduler : Scheduler) (plan : SwitchPlan) (slot : ℕ) → IsScheduler scheduler → IsGood plan
         → map (λ input. input.plan) inputs.now ≡ plan.cards → AreGranted scheduler plan slot names.now
         → matched.now ≡ match_under scheduler plan slot → nano ≡ plan.nano → AreOutputs scheduler plan (slot + 1) outputs.old
         → AreOutputs scheduler plan (slot + 2) outputs.new) }
+    ensures kept { OnOk result (keeping outputs.new ≡ keeping outputs.old) }
 {
     laws::slots_add_records();
     laws::slots_add_one_cell();

@@ -1,14 +1,13 @@
-ghost use Rattle.std.specs.Prelude.{◌≡◌, ℕ, ◌+◌, ◌<◌, [], length, IfOk, OnOk, Some, slice_get};
-ghost use Rattle.pcap_records.specs.Output.{capture_text};
+ghost use Rattle.std.specs.Prelude.{◌≡◌, ℕ, ◌+◌, ◌<◌, length, IfOk, OnOk, Some, slice_get};
 ghost use Rattle.eslip_rounds.specs.Schedulers.{Scheduler, IsScheduler};
 ghost use Rattle.named_schedulers.specs.Named.{decision_named};
 ghost use Rattle.switch_plan.specs.GoodPlans.{SwitchPlan, IsGood, IsCountable, switch_plan_of};
-ghost use Rattle.descriptor_runs.specs.OutputSteps.{OutputValue};
+ghost use Rattle.descriptor_runs.specs.OutputSteps.{OutputValue, AreKeeping, keeping, new_output};
 ghost use Rattle.descriptor_runs.specs.SwitchSteps.{IsBefore, IsDecided, IsActivity};
 
 use crate::cell_names::CellNames;
 use crate::input_ports::InputPorts;
-use crate::outputs::Output;
+use crate::outputs::{Captures, Output};
 use crate::serving::{feed_outputs, serve_inputs};
 use card_core::CardPlan;
 use crossbar::Post;
@@ -69,11 +68,13 @@ impl Switch {
     pub(crate) fn make(
         alloc: Global,
         scheduler: SchedulerName,
+        captures: Captures,
         plan: Plan,
     ) -> Result<Switch, OutOfMemory>
         requires good { IsGood (switch_plan_of plan) }
         requires countable { IsCountable (switch_plan_of plan) }
-        ensures { IfOk result (IsBefore (decision_named scheduler) (switch_plan_of plan) 0) }
+        ensures before { IfOk result (IsBefore (decision_named scheduler) (switch_plan_of plan) 0) }
+        ensures kept { IfOk result (λ switch. AreKeeping captures switch.outputs.items) }
     {
         let ports = plan.cards.len() as u32;
         let nothing = Post {
@@ -82,7 +83,7 @@ impl Switch {
             more: false,
         };
         let posts = vec![in alloc; nothing; ports as usize]?;
-        let outputs = outputs_of(alloc, plan.nano, plan.link, &plan.cards)?;
+        let outputs = outputs_of(alloc, captures, plan.nano, plan.link, &plan.cards)?;
         Ok(Switch {
             scheduler: NamedScheduler::new(scheduler),
             rounds: plan.rounds,
@@ -107,6 +108,7 @@ impl Switch {
             → IsDecided scheduler plan slot self.new }
         ensures activity { (scheduler : Scheduler) (plan : SwitchPlan) → IsScheduler scheduler → IsGood plan → IsBefore scheduler plan slot self.old
             → IsActivity scheduler plan slot result }
+        ensures outputs { self.new.outputs ≡ self.old.outputs }
     {
         let ports = self.pointers.ports();
         self.inputs.let_in(slot);
@@ -128,8 +130,9 @@ impl Switch {
     pub(crate) fn serve(&mut self) -> Result<(), OutOfMemory>
         requires { (scheduler : Scheduler) × (plan : SwitchPlan) × (slot : ℕ) × IsScheduler scheduler × IsGood plan × IsCountable plan
             × (slot < plan.max_slots) × IsDecided scheduler plan slot self.old }
-        ensures { OnOk result ((scheduler : Scheduler) (plan : SwitchPlan) (slot : ℕ) → IsScheduler scheduler → IsGood plan
+        ensures served { OnOk result ((scheduler : Scheduler) (plan : SwitchPlan) (slot : ℕ) → IsScheduler scheduler → IsGood plan
             → IsDecided scheduler plan slot self.old → IsBefore scheduler plan (slot + 1) self.new) }
+        ensures kept { OnOk result (keeping self.new.outputs.items ≡ keeping self.old.outputs.items) }
     {
         serve_inputs(
             &mut self.inputs,
@@ -147,20 +150,21 @@ impl Switch {
     }
 }
 
-// An output for each plan, to which nothing has come, with room for the records that come to it.
+// An output for each plan, to which nothing has come, with room for the records that come to it where captures are kept.
 fn outputs_of(
     alloc: Global,
+    captures: Captures,
     nano: bool,
     link: Link,
     plans: &[CardPlan],
 ) -> Result<Vec<Output>, OutOfMemory>
     ensures count { IfOk result (λ outputs. length outputs.items ≡ length plans.now) }
     ensures each { IfOk result (λ outputs. (j : ℕ) (output : OutputValue) → slice_get outputs.items j ≡ Some output
-        → output ≡ record { text = capture_text nano link []; packets = 0; cells = 0 }) }
+        → output ≡ new_output captures nano link) }
 {
     let mut outputs = Vec::with_capacity(alloc, plans.len())?;
     for plan in plans {
-        let output = Output::make(alloc, nano, link, plan.body_room as usize)?;
+        let output = Output::make(alloc, captures, nano, link, plan.body_room as usize)?;
         outputs.push_reserved(output);
     }
     Ok(outputs)

@@ -16,6 +16,7 @@ use Rattle.run_laws.proofs.FirstDone.{one_length}
 use Rattle.run_laws.proofs.RunEnds.{run_ends}
 use Rattle.run_outcomes.specs.declared.outcome.Outcome.{Outcome}
 use Rattle.run_outcomes.specs.Outcomes.{IsOutcome, messages_under}
+use Rattle.descriptor_runs.specs.declared.outputs.Captures.TheVariants.{Kept}
 use Rattle.descriptor_runs.specs.Outcomes.{IsRunOutcome, capture_under, line_under}
 use Rattle.switch_run.specs.MakingSteps.{HaveMessages, line_of_card}
 
@@ -53,7 +54,7 @@ module _ (plan : SwitchPlan) (run : Outcome) (is : IsOutcome plan run) where
   pub left_at_board : (captures : Vec (Vec ℕ Global) Global) (lines : Vec OutLine Global) → IsGood plan
       → bytes_of_files captures ≡ map (capture_under decision_of plan is.slots) (range_with_len 0 (length run.outputs.items))
       → lines.items ≡ map line_of_card run.outputs.items
-      → IsRunOutcome decision_of plan is.slots (record { summary = run.summary; captures = captures; lines = lines })
+      → IsRunOutcome Kept decision_of plan is.slots (record { summary = run.summary; captures = captures; lines = lines })
   left_at_board captures lines good captures_made lines_made = record {
     ends = is.ends;
     within = within good;

@@ -19,6 +19,7 @@ use Rattle.switch_plan.specs.GoodPlans.{SwitchPlan}
 use Rattle.switch_plan.specs.ReadingSteps.{bytes_of_files}
 use Rattle.run_laws.specs.Runs.{journal_under, ports_of}
 use Rattle.run_outcomes.specs.Outcomes.{messages_under, summary_under}
+use Rattle.descriptor_runs.specs.declared.outputs.Captures.TheVariants.{Kept}
 use Rattle.descriptor_runs.specs.declared.running.RunOutcome.{RunOutcome}
 use Rattle.descriptor_runs.specs.Outcomes.{IsRunOutcome}
 use Rattle.packet_times.specs.declared.limits.TheConstants.{MAX_PACKETS_BYTES}
@@ -49,7 +50,7 @@ pub slot_lines : (is_wanted : Bool) (slots : List JournalSlot)
 slot_lines true slots = refl
 slot_lines false slots = refl
 
-module _ (scheduler : Scheduler) (plan : SwitchPlan) (slots : ℕ) (outcome : RunOutcome) (left : IsRunOutcome scheduler plan slots outcome) where
+module _ (scheduler : Scheduler) (plan : SwitchPlan) (slots : ℕ) (outcome : RunOutcome) (left : IsRunOutcome Kept scheduler plan slots outcome) where
   -- the report is that of the run
   pub report_is : (wanted : Wanted) (told : Told) (text : List ℕ)
       → text ≡ report_bytes outcome.summary outcome.lines.items told.queues (if wanted.slots then journal_under scheduler plan slots else []) ++ told.reference

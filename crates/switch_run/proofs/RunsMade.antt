@@ -9,6 +9,7 @@ use Rattle.switch_plan.specs.GoodPlans.{SwitchPlan, IsGood, IsBurst, IsCountable
 use Rattle.switch_plan.specs.Refusals.{limits_for, long_limits, terms_of}
 use Rattle.run_laws.specs.Ends.{IsLengthUnder}
 use Rattle.run_laws.specs.Runs.{ports_of}
+use Rattle.descriptor_runs.specs.declared.outputs.Captures.TheVariants.{Kept}
 use Rattle.descriptor_runs.specs.declared.running.RunOutcome.{RunOutcome}
 use Rattle.descriptor_runs.specs.Outcomes.{IsRunOutcome, line_under}
 use Rattle.run_notes.specs.declared.wanted.Wanted.{Wanted}
@@ -36,7 +37,7 @@ burst_of_journal true journal plan burst none wanted = let unwanted = none refl 
 burst_of_journal false journal plan burst none wanted = burst refl
 
 -- a run has few outputs
-pub few_lines : (scheduler : Scheduler) (plan : SwitchPlan) (slots : ℕ) (outcome : RunOutcome) → IsGood plan → IsRunOutcome scheduler plan slots outcome
+pub few_lines : (scheduler : Scheduler) (plan : SwitchPlan) (slots : ℕ) (outcome : RunOutcome) → IsGood plan → IsRunOutcome Kept scheduler plan slots outcome
     → length outcome.lines.items ≤ MAX_PORTS
 few_lines scheduler plan slots outcome good is =
     omega (arith, ap length is.lines ∙ length-map-range_with_len (line_under scheduler plan slots) 0 (ports_of plan), good.size.most)

@@ -24,6 +24,7 @@ use Rattle.run_notes.specs.declared.texts.NotesFault.{NotesFault}
 use Rattle.run_notes.specs.declared.texts.NotesFault.TheVariants as fault
 use Rattle.run_notes.specs.NotingSteps.{HasNoted, StopsTold, told_by}
 use Rattle.run_notes.specs.Told.{told_under}
+use Rattle.descriptor_runs.specs.declared.outputs.Captures.TheVariants.{Kept}
 use Rattle.descriptor_runs.specs.Outcomes.{IsRunOutcome}
 use Rattle.job_files.specs.Inputs.{AreInputs}
 use Rattle.job_files.specs.Jobs.{RunsSwitch}
@@ -42,14 +43,14 @@ use Rattle.job_files.specs.declared.ending.Ending.TheVariants.{Done, Refused, Jo
 -- The run of the plan under the scheduler came to its end: what it leaves, and its notes.
 pub record IsNotedRun (scheduler : Scheduler) (plan : SwitchPlan) (wanted : Wanted) (is : NotedRun) : Type 0 where
   pub slots : ℕ
-  pub left : IsRunOutcome scheduler plan slots is.outcome
+  pub left : IsRunOutcome Kept scheduler plan slots is.outcome
   pub wanted_is : is.notes.wanted ≡ wanted
   pub noted : HasNoted scheduler plan is.notes slots
 
 -- The same, with what it tells in place of its notes. A packets file is limited where the run is not long.
 pub record IsRanOf (scheduler : Scheduler) (plan : SwitchPlan) (wanted : Wanted) (long : Bool) (is : EndedRun) : Type 0 where
   pub slots : ℕ
-  pub left : IsRunOutcome scheduler plan slots is.outcome
+  pub left : IsRunOutcome Kept scheduler plan slots is.outcome
   pub few : length is.outcome.lines.items ≤ MAX_PORTS
   pub told : told_by is.told ≡ told_under scheduler wanted plan slots
   pub small : IfSome (told_by is.told).journal (λ bytes. length bytes ≤ MAX_JOURNAL_BYTES)

@@ -11,7 +11,7 @@ ghost use Rattle.switch_run.specs.Switched.{IsPlanned};
 
 use crate::captures::{out_lines, output_captures};
 use card_worker::Gate;
-use descriptor_runs::{RunOutcome, run_by_descriptors};
+use descriptor_runs::{Captures, RunOutcome, run_by_descriptors};
 use job_files::{Ending, Inputs};
 use rotating_pick::OutOfMemory;
 use run_notes::{NotedTexts, NotesFault, RunNotes, Wanted};
@@ -121,12 +121,12 @@ fn run_on_thread(
     ensures { IfOk result (IsNotedRun (decision_named scheduler) (switch_plan_of plan) wanted) }
 {
     let mut notes = RunNotes::make(alloc, wanted, &plan)?;
-    let outcome = run_by_descriptors(alloc, plan, scheduler, &mut notes)?;
+    let outcome = run_by_descriptors(alloc, plan, scheduler, Captures::Kept, &mut notes)?;
     Ok(NotedRun { outcome, notes })
 }
 
 // Runs the plan to its end under the scheduler, at a board where it is the board's and the run is not long, and else on this
-// thread: the numbers of the run. Nothing is noted, and the board's outputs make no captures.
+// thread: the numbers of the run. Nothing is noted, and no captures are made.
 fn summary_of_run<R: Threads + Sync, G: Gate + Sync>(
     rt: &R,
     alloc: Global,
@@ -142,7 +142,10 @@ fn summary_of_run<R: Threads + Sync, G: Gate + Sync>(
 {
     match scheduler {
         SchedulerName::Islip if !long => Ok(run_job(rt, alloc, plan, gate)?.summary),
-        scheduler => Ok(run_by_descriptors(alloc, plan, scheduler, &mut NoSink)?.summary),
+        scheduler => {
+            let captures = Captures::Dropped;
+            Ok(run_by_descriptors(alloc, plan, scheduler, captures, &mut NoSink)?.summary)
+        }
     }
 }
 

@@ -40,7 +40,7 @@ cells_in-requires c =
     (λ j. c.slots_add_one_cell.ensures.messages scheduler plan j slots))
 
 pub returns : goal.returns
-returns c = λ scheduler plan scheduling good countable ends within told is.
+returns c = λ captures scheduler plan scheduling good countable ends within told is keeps.
     let slots = c.args.slots in
     let switch = c.args.switch in
     let lines = c.in_ok-captures.lines.items in
@@ -51,7 +51,7 @@ returns c = λ scheduler plan scheduling good countable ends within told is.
     record {
       ends = ends;
       within = within;
-      captures = c.in_ok-captures.ensures.captures ∙ captures_are scheduler plan slots switch.outputs.items is.outputs nothing;
+      captures = c.in_ok-captures.ensures.captures ∙ captures_are scheduler plan slots switch.outputs.items is.outputs nothing captures keeps;
       lines = these_lines scheduler scheduling plan good countable slots ends switch is lines c.in_ok-captures.ensures.lines nothing fewer;
       summary = summary_is scheduler scheduling plan good countable slots ends switch is lines c.in_ok-captures.ensures.lines nothing fewer
           c.args.numbers.now told c.ports-ports.result c.dropped_in-dropped.result c.admitted_in-forwarded.result c.packets_in.result c.cells_in.result

@@ -1,5 +1,8 @@
 use Rattle.std.proofs.Common.{◌∙◌, ◌+◌, refl, sym, arith}
+use Rattle.std.specs.Prelude.{is_some}
+use Rattle.std.proofs.Math.Seq.{map-set_same}
 use Rattle.slot_match.proofs.Sets.{zero-has}
+use Rattle.descriptor_runs.specs.OutputSteps.{OutputValue}
 use Rattle.descriptor_runs.proofs.Feeding.{feeding, fed_first, fed_all, match-long, inputs-long, fed_from, some_name, good-input, packet-there}
 use Rattle.descriptor_runs.proofs.Feeding.{fed_more, come_before, few_cells, few_packets}
 use Rattle.descriptor_runs.proofs.serving.feed_outputs.Goals as goal
@@ -9,6 +12,7 @@ loop-output-init c = record {
   left = λ j has. (c.fed_outputs-rest.ensures j).0 has;
   fed = λ scheduler plan t is are. fed_first scheduler plan t _ _ _ _ is c.slots_add_records.ensures c.args.outputs.now are c.fed_outputs-rest.result
       c.fed_outputs-rest.ensures;
+  kept = refl;
 }
 
 pub without-rest-requires : goal.without-rest-requires
@@ -107,6 +111,7 @@ loop-output-preserved-in_default-get c = record {
       let left = (c.loop-output.invariant.left c.in-Some.output c.in-Some.ensures.member).0 in
       absurd (some_name scheduler plan t _ _ _ _ is c.slots_add_records.ensures _ are c.in-Some.output (omega arith) c.in-Some-fed.fed
       (sym c.in-Some-fed.ensures.value) (sym c.get.ensures ∙ c.in_default-get.is));
+  kept = c.loop-output.invariant.kept;
 }
 
 pub loop-output-preserved : goal.loop-output-preserved
@@ -125,10 +130,13 @@ loop-output-preserved c = record {
       c.in-Some-fed.fed c.in-Some-get.name c.index-inputs-fed.result now c.without-rest.ensures.members
       (come_before scheduler plan t at.outputs at.rest j c.index-outputs-output.result now member (omega arith)) (sym c.in-Some-fed.ensures.value)
       (sym c.get.ensures ∙ c.in-Some-get.is) c.index-inputs-fed.is c.in_ok-feed.ensures;
+  kept = map-set_same (λ (output : OutputValue). is_some output.text) c.loop-output.outputs c.in-Some.output c.feed.new.output
+      c.index-outputs-output.result c.in_ok-feed.ensures.kept
+      ∙ c.loop-output.invariant.kept;
 }
 
-pub returns : goal.returns
-returns c = λ scheduler plan t scheduling good plans granted matched nano are.
+pub returns-clause-fed : goal.returns-clause-fed
+returns-clause-fed c = λ scheduler plan t scheduling good plans granted matched nano are.
     fed_all scheduler plan t c.loop-output.outputs c.loop-output.rest
     (c.loop-output.invariant.fed scheduler plan t
     (record { scheduling = scheduling; good = good; plans = plans; granted = granted; matched_is = matched; nano_is = nano }) are)

@@ -1,5 +1,5 @@
 use Rattle.std.proofs.Common.{◌≡◌, ◌∙◌, [], None, Some, slice_index_or, length, map, refl, sym, ap, subst, arith}
-use Rattle.std.specs.Prelude.{slice_get}
+use Rattle.std.specs.Prelude.{slice_get, is_some}
 use Rattle.std.specs.Option.{option_map}
 use Rattle.std.proofs.lemmas.List.{length-map}
 use Rattle.std.proofs.lemmas.List.Sums.{get_or-le-sum_by}
@@ -11,8 +11,9 @@ use Rattle.named_schedulers.specs.Named.{decision_named}
 use Rattle.card_core.specs.Plans.{Plan, plan_of}
 use Rattle.switch_plan.specs.GoodPlans.{switch_plan_of, packets_in}
 use Rattle.run_laws.specs.Runs.{ports_of, card_at, before_under}
-use Rattle.descriptor_runs.specs.OutputSteps.{HasCome}
+use Rattle.descriptor_runs.specs.OutputSteps.{OutputValue, HasCome}
 use Rattle.descriptor_runs.specs.SwitchSteps.{IsNameOf}
+use Rattle.descriptor_runs.proofs.Keeping.{new_come, new_keeps}
 use Rattle.descriptor_runs.proofs.switch.Switch.make.Goals as goal
 
 pub make-requires-clause-good : goal.make-requires-clause-good
@@ -31,9 +32,9 @@ make-requires-clause-few c = λ port card there.
     let few = c.requires.countable.packets in
     omega arith
 
-pub returns : goal.returns
+pub returns-clause-before : goal.returns-clause-before
 unfolding before_under
-returns c =
+returns-clause-before c =
     let plan = switch_plan_of c.args.plan in
     let ports : c.len-ports.result ≡ ports_of plan = c.len-ports.ensures ∙ (c.args.plan.cards.ok.0 ∙ sym (length-map c.args.plan.cards.items plan_of)) in
     let made = c.in_ok-make-2.ensures in
@@ -55,6 +56,10 @@ returns c =
       outputs = record {
         count = c.in_ok-outputs.ensures.count ∙ (ap length c.deref.ensures.value ∙ sym (length-map c.args.plan.cards.items plan_of));
         come = λ j output at. subst (HasCome (decision_named c.args.scheduler) plan 1 j) (sym (c.in_ok-outputs.ensures.each j output at))
-            (record { text = refl; packets = refl; cells = refl });
+            (new_come c.args.captures (decision_named c.args.scheduler) plan j);
       };
     }
+
+pub returns-clause-kept : goal.returns-clause-kept
+returns-clause-kept c = λ j output at.
+    ap (λ (x : OutputValue). is_some x.text) (c.in_ok-outputs.ensures.each j output at) ∙ new_keeps c.args.captures c.args.plan.nano c.args.plan.link

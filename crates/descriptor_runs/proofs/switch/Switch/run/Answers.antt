@@ -1,8 +1,9 @@
-use Rattle.std.proofs.Common.{◌∙◌, refl, arith}
+use Rattle.std.proofs.Common.{◌∙◌, Vec, Global, refl, ap, arith}
 use Rattle.std.proofs.lemmas.Bool.{both_ways}
 use Rattle.slot_histories.specs.Slots.{is_done_at}
 use Rattle.run_laws.specs.Runs.{ports_of, posts_under}
 use Rattle.run_laws.proofs.FirstDone.{not_done}
+use Rattle.descriptor_runs.specs.OutputSteps.{OutputValue, keeping}
 use Rattle.descriptor_runs.proofs.Endings.{before-end, going-on, goes-on}
 use Rattle.descriptor_runs.proofs.switch.Switch.run.Goals as goal
 
@@ -32,6 +33,8 @@ loop-slot-preserved g c = record {
       let going = going-on (ports_of plan) (posts_under scheduler plan) t at.1
       (goes-on scheduler plan t c.in_ok-activity.activity c.in_default.not-Done made.0) in
       c.go_on-slot.ensures.next scheduler plan t refl scheduling quiet good going made.0 made.1 made.2;
+  kept = ap (λ (outputs : Vec OutputValue Global). keeping outputs.items) c.go_on-slot.ensures.outputs
+      ∙ (c.in_ok-activity.ensures.kept ∙ c.loop-slot.invariant.kept);
   wanted = c.go_on-slot.ensures.wanted ∙ (c.in_ok-activity.ensures.wanted ∙ c.loop-slot.invariant.wanted);
 }
 

@@ -4,6 +4,7 @@ use Rattle.idle_slots.specs.Quiet.{IsQuiet}
 use Rattle.slot_histories.specs.Slots.{is_done_before}
 use Rattle.switch_plan.specs.GoodPlans.{SwitchPlan, IsGood}
 use Rattle.run_laws.specs.Runs.{ports_of, posts_under}
+use Rattle.descriptor_runs.specs.OutputSteps.{keeping}
 use Rattle.descriptor_runs.specs.SwitchSteps.{IsBefore}
 use Rattle.descriptor_runs.proofs.switch.Switch.run.Given as goal
 
@@ -13,6 +14,7 @@ invariant-loop-slot g l = record {
       → IsBefore scheduler plan 0 l.fn.self → g.S.SlotSink.noted l.fn.sink scheduler plan 0
       → IsBefore scheduler plan l.slot l.self × (is_done_before (ports_of plan) (posts_under scheduler plan) l.slot ≡ false)
       × g.S.SlotSink.noted l.sink scheduler plan l.slot;
+  kept : keeping l.self.outputs.items ≡ keeping l.fn.self.outputs.items;
   wanted : g.S.SlotSink.wanted l.sink ≡ g.S.SlotSink.wanted l.fn.sink;
 }
 

@@ -28,8 +28,8 @@ feed_outputs-requires c =
       outputs-given scheduler plan t c.args.self.now is c.deref_mut.result.now c.deref_mut.ensures.value,
     )
 
-pub returns : goal.returns
-returns c = on_ok_weaker c.feed_outputs.result
+pub returns-clause-served : goal.returns-clause-served
+returns-clause-served c = on_ok_weaker c.feed_outputs.result
     (λ fed scheduler plan t scheduling good is.
     let switch = c.args.self.now in
     let given = c.deref_mut.result.now in
@@ -53,4 +53,4 @@ returns c = on_ok_weaker c.feed_outputs.result
       outputs = outputs-fed scheduler plan t switch is given same c.feed_outputs.new.outputs c.feed_outputs.auto.outputs
           (fed scheduler plan t scheduling good plans granted is.matched is.switch_is.nano (outputs-given scheduler plan t switch is given same));
     })
-    c.feed_outputs.ensures
+    c.feed_outputs.ensures.fed
