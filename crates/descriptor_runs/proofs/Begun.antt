@@ -29,7 +29,7 @@ module _ (input : InputValue) (new : HasServed input [] false) where
   rests_none : (l : ℕ) → l < LEVELS → (fan_at input.fans l).rest ≡ 0
   rests_none l below = new.queues.rests l below ∙ zero-no_members _ (λ j has. remaining-nothing (OfLevel l) [] j has)
 
-  new-row : row_in input ≡ empty_row
+  pub new-row : row_in input ≡ empty_row
   new-row =
       let best = unis_none 0 (omega arith) in
       let second = unis_none 1 (omega arith) in

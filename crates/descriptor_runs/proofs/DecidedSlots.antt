@@ -1,12 +1,15 @@
 -- What a switch decides of a slot, when the packets of the slot have come in, is what the run decides of it.
-use Rattle.std.proofs.Common.{◌≡◌, ◌∙◌, ℕ, ◌+◌, true, List, [], ◌∷◌, ◌++◌, map, Option, sym, ap, subst, arith}
+use Rattle.std.proofs.Common.{◌≡◌, ◌∙◌, ℕ, ◌+◌, ◌<◌, ◌⊎◌, true, List, [], ◌∷◌, ◌++◌, map, length, Option, None, sym, ap, subst, arith, inl, inr}
+use Rattle.std.specs.Prelude.{slice_get, slice_index_or}
 use Rattle.std.specs.List.{range_with_len}
-use Rattle.std.proofs.lemmas.List.{map_push}
-use Rattle.std.proofs.lemmas.List.FromFn.{map-range_with_len_more}
 use Rattle.std.proofs.lemmas.Simd.{map-map}
+use Rattle.rotating_pick.specs.PortSets.{Has}
 use Rattle.slot_match.specs.declared.rows.Row.{Row}
 use Rattle.slot_match.specs.declared.matching.Fed.{Fed}
+use Rattle.slot_match.specs.declared.matching.Served.{Served}
 use Rattle.slot_match.specs.Rows.{AreWithin}
+use Rattle.slot_match.specs.Matches.{IsMatch}
+use Rattle.slot_match.specs.Parts.{served_of}
 use Rattle.pointer_state.specs.Places.{Places}
 use Rattle.eslip_rounds.specs.Calls.{CanDecide}
 use Rattle.eslip_rounds.specs.Slots.{Decision}
@@ -16,7 +19,7 @@ use Rattle.named_schedulers.specs.Named.{decision_named}
 use Rattle.slot_histories.specs.Slots.{slot_rows, decision_under}
 use Rattle.slot_histories.proofs.SoundDecisions.{places_under-at_ports}
 use Rattle.service_bound.specs.Waits.{NotedSlot, noted_of}
-use Rattle.service_bound.specs.MeterSteps.{Meter, HasNoted}
+use Rattle.service_bound.specs.MeterSteps.{Meter, HasNoted, HasParts, WaitsAreKept}
 use Rattle.slot_board.specs.Schedules.{decided_under}
 use Rattle.switch_plan.specs.GoodPlans.{SwitchPlan, IsGood}
 use Rattle.run_laws.specs.Runs.{ports_of, setup_for, posts_under}
@@ -25,7 +28,10 @@ use Rattle.run_laws.proofs.Base.{within}
 use Rattle.descriptor_runs.specs.declared.switch.Switch.{Switch}
 use Rattle.descriptor_runs.specs.InputSteps.{InputValue, row_in}
 use Rattle.descriptor_runs.specs.SwitchSteps.{AreInputs, IsBefore}
+use Rattle.descriptor_runs.proofs.InputPorts.{count-inputs}
 use Rattle.descriptor_runs.proofs.Letting.{all-rows}
+use Rattle.descriptor_runs.proofs.Resting.{noted-more, waits-kept}
+use Rattle.descriptor_runs.proofs.ServedPorts.{AreServing, free-unless}
 
 -- the inputs are these when the packets have come in, and these their rows
 module _ (scheduler : Scheduler) (scheduling : IsScheduler scheduler) (plan : SwitchPlan) (good : IsGood plan) (t : ℕ) (switch : Switch)
@@ -68,6 +74,14 @@ module _ (scheduler : Scheduler) (scheduling : IsScheduler scheduler) (plan : Sw
           matched = is.switch_is.matched ∙ sym ports-are;
         }
 
+    -- and these are the parts of its match
+    pub has-parts : (matched : List (Option Fed)) (parts : List (Option Served)) → IsMatch n matched
+        → ((i : ℕ) → i < length matched → slice_index_or parts i None ≡ served_of matched i) → HasParts switch.meter.ports matched parts
+    has-parts matched parts whole each =
+        let same_ports = ports-are ∙ sym is.switch_is.meter_ports in
+        let long = whole.count in
+        record { whole = subst (λ k. IsMatch k matched) same_ports whole; each = λ i inside. each i (omega arith) }
+
     pub decision-is : (decision : Decision) → decision ≡ decision_named switch.scheduler n switch.rounds t rows switch.pointers → decision ≡ decided
     decision-is decision found =
         found
@@ -82,11 +96,21 @@ module _ (scheduler : Scheduler) (scheduling : IsScheduler scheduler) (plan : Sw
       → ((slots : List NotedSlot) → HasNoted switch.meter slots → HasNoted meter (slots ++ record { rows = again; matched = matched } ∷ []))
       → matched ≡ decided.matched → HasNoted meter (map noted_of (schedule_under scheduler plan (t + 1)))
   noted again as_written meter matched notes m =
-      let slot = decided_under scheduler (setup_for plan) (posts_under scheduler plan) in
-      let before = schedule_under scheduler plan t in
+      let before = map noted_of (schedule_under scheduler plan t) in
       let r = as_written ∙ rows-posted in
-      let one : record { rows = again; matched = matched } ≡ noted_of (slot t) = λ k. record { rows = r k; matched = m k } in
-      subst (HasNoted meter)
-      (ap (λ (n : NotedSlot). map noted_of before ++ n ∷ []) one
-      ∙ (sym (map_push noted_of before (slot t)) ∙ ap (map noted_of) (sym (map-range_with_len_more slot 0 t t (omega arith)))))
-      (notes (map noted_of before) is.switch_is.noted)
+      let one : record { rows = again; matched = matched } ≡ noted_of (decided_under scheduler (setup_for plan) (posts_under scheduler plan) t) =
+      λ k. record { rows = r k; matched = m k } in
+      subst (HasNoted meter) (ap (λ (n : NotedSlot). before ++ n ∷ []) one ∙ sym (noted-more scheduler plan t)) (notes before is.switch_is.noted)
+
+  -- and needs to look only at inputs to which a packet came, or which this slot or the one before serves
+  pub kept : (again : List Row) → again ≡ rows → (n : ℕ) → n ≡ ports_of plan → (matched : List (Option Fed)) → length matched ≡ ports_of plan
+      → (came before served news : ℕ) → ((i : ℕ) → (Has came i → ⊥) → slice_get inputs i ≡ slice_get switch.inputs i) → AreServing switch.matched before
+      → AreServing matched served → ((i : ℕ) → Has came i ⊎ (Has before i ⊎ Has served i) → Has news i)
+      → WaitsAreKept n news (map noted_of (schedule_under scheduler plan t)) (record { rows = again; matched = matched })
+  kept again as_written n ports matched long came before served news others was_serving serving all = λ i j level inside below lacks.
+      let count = count-inputs plan switch.inputs is.inputs.plans in
+      let last = is.switch_is.matched in
+      waits-kept (map noted_of (schedule_under scheduler plan t)) inputs switch.inputs again matched switch.matched i j level (omega arith) below
+      (as_written ∙ rows_are) (others i (λ has. lacks (all i (inl has))))
+      (free-unless matched served i serving (omega arith) (λ has. lacks (all i (inr (inr has)))))
+      (free-unless switch.matched before i was_serving (omega arith) (λ has. lacks (all i (inr (inl has))))) is.resting

@@ -36,7 +36,7 @@ use Rattle.idle_slots.specs.Quiet.{empty_rows}
 use Rattle.idle_slots.specs.Idle.{AreIdle}
 
 -- rows of which none names an output
-zeros_at : (k level : ℕ) → slice_index (replicate k 0) level ≡ 0
+pub zeros_at : (k level : ℕ) → slice_index (replicate k 0) level ≡ 0
 zeros_at zero level = refl
 zeros_at (suc k) zero = refl
 zeros_at (suc k) (suc level) = zeros_at k level
@@ -51,7 +51,7 @@ none_asked n i level =
     ]
 
 module _ (scheduler : Scheduler) (plan : SwitchPlan) (t u : ℕ) (still : AreIdle scheduler plan t u) where
-  none_waits : (s : ℕ) → t ≤ s → s < u → NoneWaits (noted_of (decided_under scheduler (setup_for plan) (posts_under scheduler plan) s))
+  pub none_waits : (s : ℕ) → t ≤ s → s < u → NoneWaits (noted_of (decided_under scheduler (setup_for plan) (posts_under scheduler plan) s))
   none_waits s from until i j level =
       let n = ports_of plan in
       let slot = decided_under scheduler (setup_for plan) (posts_under scheduler plan) s in

@@ -26,12 +26,13 @@ use Rattle.descriptor_runs.specs.declared.switch.Switch.{Switch}
 use Rattle.descriptor_runs.specs.InputSteps.{InputValue}
 use Rattle.descriptor_runs.specs.OutputSteps.{OutputValue, HasCome}
 use Rattle.descriptor_runs.specs.PortSteps.{NoneBefore, ComesTo}
-use Rattle.descriptor_runs.specs.SwitchSteps.{AreInputs, AreNames, IsNameOf, IsBefore}
+use Rattle.descriptor_runs.specs.SwitchSteps.{AreInputs, AreNames, AreResting, IsNameOf, IsBefore}
 use Rattle.descriptor_runs.proofs.InputPorts.{count-inputs, plan-of, in-ports}
 use Rattle.descriptor_runs.proofs.Arriving.{next-late}
 use Rattle.descriptor_runs.proofs.Endings.{going-to}
 use Rattle.descriptor_runs.proofs.GapSlots.{gap, length-gap, gap-waits, gap-more, none-crosses}
 use Rattle.descriptor_runs.proofs.GapInputs.{gap-inputs}
+use Rattle.descriptor_runs.proofs.Resting.{rests-still}
 
 -- ---- the next arrival
 module _ (scheduler : Scheduler) (plan : SwitchPlan) (slot : ℕ) (inputs : List InputValue) (are : AreInputs scheduler plan slot false inputs) where
@@ -182,4 +183,6 @@ module _ (scheduler : Scheduler) (plan : SwitchPlan) (slot next : ℕ) (skipped 
           count = is.outputs.count;
           come = λ j output at. come j output (is.outputs.come j output at);
         };
+        resting = rests-still scheduler plan t next skipped.idle switch.matched switch.inputs some
+            (subst (λ s. AreResting (map noted_of (schedule_under scheduler plan s)) switch.matched switch.inputs) begins is.resting);
       }

@@ -4,6 +4,7 @@ pub mod Arriving
 pub mod Letting
 pub mod Granting
 pub mod ServedPorts
+pub mod Resting
 pub mod DecidedSlots
 pub mod Begun
 pub mod Records

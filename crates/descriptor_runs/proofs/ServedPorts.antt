@@ -51,6 +51,10 @@ pub record AreServed (scheduler : Scheduler) (plan : SwitchPlan) (t : ℕ) (give
 abbrev pub AreServing : List (Option Fed) → ℕ → Type 0
 AreServing matched served = (i : ℕ) → Has served i ↔ ((i < length matched) × (IsFreeInput matched i → ⊥))
 
+-- an input that is not in it is free
+pub free-unless : (matched : List (Option Fed)) (served i : ℕ) → AreServing matched served → i < length matched → (Has served i → ⊥) → IsFreeInput matched i
+free-unless matched served i serving inside lacks j level kind s = lacks ((serving i).1 (inside, λ free. free j level kind s))
+
 module _ (scheduler : Scheduler) (plan : SwitchPlan) (t : ℕ) (given : List InputValue) (matched : List (Option Fed)) (parts : List (Option Served))
     (is : IsServing scheduler plan t given matched parts) where
   pub match-long : length matched ≡ ports_of plan
@@ -60,7 +64,7 @@ module _ (scheduler : Scheduler) (plan : SwitchPlan) (t : ℕ) (given : List Inp
   no-part : (served : ℕ) → AreServing matched served → (i : ℕ) → i < ports_of plan → (Has served i → ⊥) → served_of (match_under scheduler plan t) i ≡ None
   no-part served serving i inside lacks =
       let long = match-long in
-      let free : IsFreeInput matched i = λ j level kind s. lacks ((serving i).1 (omega arith, λ none. none j level kind s)) in
+      let free : IsFreeInput matched i = free-unless matched served i serving (omega arith) lacks in
       ap (λ (m : List (Option Fed)). served_of m i) (sym is.matched_is) ∙ served_of-free matched i free
 
   -- and one that is has one

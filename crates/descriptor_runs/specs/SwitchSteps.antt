@@ -5,20 +5,25 @@ use Rattle.cell_cutter.specs.declared.cell.CellName.{CellName}
 use Rattle.card_core.specs.Plans.{Plan as CardPlan, no_packet, cell_named, size_of}
 use Rattle.card_core.specs.Queues.{waiting, queue_in}
 use Rattle.card_core.specs.Posts.{queue_served, granted_at}
+use Rattle.rotating_pick.specs.declared.kinds.Kind.TheVariants.{Uni}
+use Rattle.rotating_pick.specs.declared.limits.TheConstants.{LEVELS}
+use Rattle.slot_match.specs.declared.matching.Fed.{Fed}
 use Rattle.slot_match.specs.declared.matching.Served.{Served}
+use Rattle.slot_match.specs.Matches.{IsFreeInput}
 use Rattle.slot_match.specs.Parts.{served_of}
 use Rattle.multicast_queue.specs.FanQueues.{first_name}
 use Rattle.slot_records.specs.Slots.{match_under, granted_name}
+use Rattle.eslip_rounds.specs.Decisions.{is_named}
 use Rattle.eslip_rounds.specs.Schedulers.{Scheduler}
 use Rattle.slot_histories.specs.Slots.{places_under, decision_under, is_done_at}
-use Rattle.service_bound.specs.Waits.{noted_of}
-use Rattle.service_bound.specs.MeterSteps.{HasNoted}
+use Rattle.service_bound.specs.Waits.{NotedSlot, noted_of}
+use Rattle.service_bound.specs.MeterSteps.{HasNoted, was_waiting}
 use Rattle.named_schedulers.specs.Named.{decision_named}
 use Rattle.switch_plan.specs.GoodPlans.{SwitchPlan}
 use Rattle.run_laws.specs.Runs.{ports_of, setup_for, card_at, posts_under, parts_under}
 use Rattle.run_laws.specs.Sums.{schedule_under}
 use Rattle.idle_slots.specs.Idle.{IsIdle}
-use Rattle.descriptor_runs.specs.InputSteps.{InputValue, HasServed}
+use Rattle.descriptor_runs.specs.InputSteps.{InputValue, HasServed, row_in}
 use Rattle.descriptor_runs.specs.OutputSteps.{OutputValue, HasCome}
 use Rattle.descriptor_runs.specs.declared.switch.Switch.{Switch}
 use Rattle.descriptor_runs.specs.declared.switch.Activity.{Activity}
@@ -60,6 +65,11 @@ pub record AreOutputs (scheduler : Scheduler) (plan : SwitchPlan) (slots : ℕ) 
   pub count : length outputs ≡ ports_of plan
   pub come : (j : ℕ) (output : OutputValue) → slice_get outputs j ≡ Some output → HasCome scheduler plan slots j output
 
+-- each queue of an input that the match does not serve is asked for exactly where it waited in the last of these slots
+abbrev pub AreResting : List NotedSlot → List (Option Fed) → List InputValue → Type 0
+AreResting slots matched inputs = (i j level : ℕ) (input : InputValue) → slice_get inputs i ≡ Some input → IsFreeInput matched i → level < LEVELS
+    → is_named (row_in input) level Uni j ≡ was_waiting slots i j level
+
 -- A switch whose pointers and meter are those before slot t: it decides by the scheduler, in the plan's rounds.
 pub record IsSwitch (scheduler : Scheduler) (plan : SwitchPlan) (t : ℕ) (switch : Switch) : Type 0 where
   pub decides : decision_named switch.scheduler ≡ scheduler
@@ -72,12 +82,14 @@ pub record IsSwitch (scheduler : Scheduler) (plan : SwitchPlan) (t : ℕ) (switc
   pub meter_count : switch.meter.count ≡ t
   pub noted : HasNoted switch.meter (map noted_of (schedule_under scheduler plan t))
 
--- Before slot t of the run: the slots before it are made, and what slot t - 1 granted has come to the outputs.
+-- Before slot t of the run: the slots before it are made, what slot t - 1 granted has come to the outputs, and inputs that the last
+-- match does not serve ask for what waits.
 pub record IsBefore (scheduler : Scheduler) (plan : SwitchPlan) (t : ℕ) (switch : Switch) : Type 0 where
   pub switch_is : IsSwitch scheduler plan t switch
   pub inputs : AreInputs scheduler plan t false switch.inputs
   pub names : AreNames scheduler plan t switch.names
   pub outputs : AreOutputs scheduler plan (t + 1) switch.outputs.items
+  pub resting : AreResting (map noted_of (schedule_under scheduler plan t)) switch.matched switch.inputs
 
 -- In slot t of the run, which is decided: the packets of the slot have arrived, and nothing was served yet.
 pub record IsDecided (scheduler : Scheduler) (plan : SwitchPlan) (t : ℕ) (switch : Switch) : Type 0 where

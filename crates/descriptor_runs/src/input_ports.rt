@@ -1,4 +1,5 @@
 ghost use Rattle.std.specs.Prelude.{◌≡◌, ◌≢◌, ℕ, ◌+◌, ◌^◌, ◌<◌, ◌≤◌, List, [], ◌∷◌, ◌++◌, Option, true, false, map, length, IfOk, Some, slice_get, slice_set};
+ghost use Rattle.rotating_pick.specs.PortSets.{Has};
 ghost use Rattle.rotating_pick.specs.declared.limits.TheConstants.{MAX_PORTS};
 ghost use Rattle.eslip_rounds.specs.Schedulers.{Scheduler};
 ghost use Rattle.slot_match.specs.declared.matching.Served.{Served as APart};
@@ -19,7 +20,7 @@ use crate::switch::Activity;
 use card_core::CardPlan;
 use cell_cutter::CellName;
 use eslip_rounds::Columns;
-use rotating_pick::OutOfMemory;
+use rotating_pick::{OutOfMemory, Ports, with};
 use slot_match::Served;
 use std::alloc::Global;
 use std::marker::Model;
@@ -101,13 +102,19 @@ impl InputPorts {
         }
     }
 
-    /// Lets in the packets of the slot.
-    pub(crate) fn let_in(&mut self, slot: u32)
+    /// Lets in the packets of the slot. Answers the inputs to which one came.
+    pub(crate) fn let_in(&mut self, slot: u32) -> Ports
         requires { (scheduler : Scheduler) × (plan : SwitchPlan) × (slot + 1 < 2 ^ 32) × AreInputs scheduler plan slot false self.old }
-        ensures { (scheduler : Scheduler) (plan : SwitchPlan) → AreInputs scheduler plan slot false self.old → AreInputs scheduler plan slot true self.new }
+        ensures arrived { (scheduler : Scheduler) (plan : SwitchPlan) → AreInputs scheduler plan slot false self.old
+            → AreInputs scheduler plan slot true self.new }
+        ensures others { (i : ℕ) → (Has result i → ⊥) → slice_get self.new i ≡ slice_get self.old i }
     {
         if self.first == Some(slot) {
-            self.first = take_arrivals(&mut self.inputs, &mut self.requests, slot);
+            let (came, next) = take_arrivals(&mut self.inputs, &mut self.requests, slot);
+            self.first = next;
+            came
+        } else {
+            0
         }
     }
 
@@ -157,38 +164,46 @@ fn first_arrival(inputs: &[Input]) -> Option<u32>
     first
 }
 
-// Lets in the packets of the slot, and brings the rows of the queues that they enter up to date. Answers the slot in which the
-// next packet arrives.
-fn take_arrivals(inputs: &mut [Input], requests: &mut Requests, slot: u32) -> Option<u32>
+// Lets in the packets of the slot, and brings the rows of the queues that they enter up to date. Answers the inputs to which one
+// came, and the slot in which the next packet arrives.
+fn take_arrivals(inputs: &mut [Input], requests: &mut Requests, slot: u32) -> (Ports, Option<u32>)
     requires served { (scheduler : Scheduler) × (plan : SwitchPlan) × (slot + 1 < 2 ^ 32) × AreInputs scheduler plan slot false inputs.old }
     requires size { length inputs.old ≤ MAX_PORTS }
     requires rows { requests.old ≡ map row_in inputs.old }
     ensures arrived { (scheduler : Scheduler) (plan : SwitchPlan) → AreInputs scheduler plan slot false inputs.old
         → AreInputs scheduler plan slot true inputs.new }
     ensures rows { requests.new ≡ map row_in inputs.new }
-    ensures first { IsFirst (length inputs.new) inputs.new result }
+    ensures others { (i : ℕ) → (Has result.0 i → ⊥) → slice_get inputs.new i ≡ slice_get inputs.old i }
+    ensures first { IsFirst (length inputs.new) inputs.new result.1 }
 {
+    let mut came = 0;
     let mut next = None;
     for place in 0..inputs.len() {
         let input = &mut inputs[place];
-        let_in(input, requests, place as u32, slot);
+        if let_in(input, requests, place as u32, slot) {
+            came = with(came, place as u32);
+        }
         next = earlier(next, input.next_slot());
     }
-    next
+    (came, next)
 }
 
 // Lets in the packet of the slot, if one arrives in it at the input of this port, and brings the row of the queues up to date.
-fn let_in(input: &mut Input, requests: &mut Requests, port: u32, slot: u32)
+// Answers whether one came.
+fn let_in(input: &mut Input, requests: &mut Requests, port: u32, slot: u32) -> bool
     requires served { (served : List (Option APart)) × HasServed input.old served false × (slot ≡ length served) × (slot + 1 < 2 ^ 32) }
     requires row { slice_get requests.old port ≡ Some (row_in input.old) }
     ensures plan { input.new.plan ≡ input.old.plan }
     ensures arrived { (served : List (Option APart)) → HasServed input.old served false → slot ≡ length served → HasServed input.new served true }
     ensures row { requests.new ≡ slice_set requests.old port (row_in input.new) }
+    ensures same { result ≡ false → input.new ≡ input.old }
 {
-    if input.next_slot() == Some(slot) {
+    let comes = input.next_slot() == Some(slot);
+    if comes {
         input.arrive(slot);
         requests.change(port, &input.row());
     }
+    comes
 }
 
 // The earlier of two slots, of which there may be none.

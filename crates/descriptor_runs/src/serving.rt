@@ -1,4 +1,4 @@
-ghost use Rattle.std.specs.Prelude.{◌≡◌, ℕ, ◌+◌, ◌^◌, ◌<◌, ◌≤◌, ◌↔◌, true, false, map, length, OnOk};
+ghost use Rattle.std.specs.Prelude.{◌≡◌, ℕ, ◌+◌, ◌^◌, ◌<◌, ◌≤◌, ◌↔◌, true, false, map, length, slice_get, OnOk};
 ghost use Rattle.rotating_pick.specs.PortSets.{Has};
 ghost use Rattle.slot_match.specs.Matches.{IsFreeInput, IsFreeOutput};
 ghost use Rattle.card_core.specs.Plans.{IsGoodPlan};
@@ -30,6 +30,7 @@ pub(crate) fn serve_inputs(
         → AreInputs scheduler plan slot true inputs.old → matched.now ≡ match_under scheduler plan slot → AreParts scheduler plan slot parts.now
         → AreInputs scheduler plan (slot + 1) false inputs.new
         × AreGranted scheduler plan slot names.new × AreNames scheduler plan (slot + 1) names.new }
+    ensures others { (i : ℕ) → IsFreeInput matched.now i → slice_get inputs.new i ≡ slice_get inputs.old i }
 {
     names.clear();
     let mut rest = served_inputs(matched);
@@ -42,8 +43,8 @@ pub(crate) fn serve_inputs(
     }
 }
 
-// The inputs that the match serves.
-fn served_inputs(matched: &Match) -> Ports
+/// The inputs that the match serves.
+pub(crate) fn served_inputs(matched: &Match) -> Ports
     ensures { (i : ℕ) → Has result i ↔ ((i < length matched.now) × (IsFreeInput matched.now i → ⊥)) }
 {
     difference(all(matched.ports()), matched.free_inputs())

@@ -8,14 +8,14 @@ ghost use Rattle.descriptor_runs.specs.SwitchSteps.{IsBefore, IsDecided, IsActiv
 use crate::cell_names::CellNames;
 use crate::input_ports::InputPorts;
 use crate::outputs::{Captures, Output};
-use crate::serving::{feed_outputs, serve_inputs};
+use crate::serving::{feed_outputs, serve_inputs, served_inputs};
 use card_core::CardPlan;
 use crossbar::Post;
 use islip_rounds::RoundsUsed;
 use named_schedulers::NamedScheduler;
 use pcap_records::Link;
 use pointer_state::Pointers;
-use rotating_pick::{OutOfMemory, PORT_COUNT};
+use rotating_pick::{OutOfMemory, PORT_COUNT, union};
 use scheduler_names::SchedulerName;
 use service_bound::WaitMeter;
 use slot_match::{Match, Row, Served};
@@ -111,7 +111,8 @@ impl Switch {
         ensures outputs { self.new.outputs ≡ self.old.outputs }
     {
         let ports = self.pointers.ports();
-        self.inputs.let_in(slot);
+        let came = self.inputs.let_in(slot);
+        let before = served_inputs(&self.matched);
         self.numbers = self.scheduler.decide_over(
             ports,
             self.rounds,
@@ -121,7 +122,10 @@ impl Switch {
             &mut self.matched,
         );
         self.matched.put_parts(&mut self.parts);
-        self.meter.note(self.inputs.columns().rows(), &self.matched);
+        // The queues of all other inputs wait as they did in the slot before.
+        let news = union(came, union(before, served_inputs(&self.matched)));
+        let rows = self.inputs.columns().rows();
+        self.meter.note_news(rows, &self.parts, news);
         self.inputs.activity()
     }
 

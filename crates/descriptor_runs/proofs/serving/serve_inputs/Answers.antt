@@ -1,5 +1,6 @@
 use Rattle.std.proofs.Common.{◌≡◌, ◌∙◌, ◌<◌, Option, None, Some, refl, sym, subst, arith, slice_index_or}
 use Rattle.slot_match.specs.declared.matching.Served.{Served}
+use Rattle.slot_match.specs.Matches.{IsFreeInput}
 use Rattle.slot_match.proofs.Sets.{zero-has}
 use Rattle.run_laws.specs.Runs.{ports_of}
 use Rattle.descriptor_runs.proofs.ServedPorts.{IsServing, AreServed, match-long, some-part, served-first, input-there, now, was, may, served-more, served-all}
@@ -15,6 +16,7 @@ loop-port-init c = record {
   left = λ i has. (c.served_inputs-rest.ensures i).0 has;
   served = λ scheduler plan t is. served-first scheduler plan t c.args.inputs.now c.args.matched.now c.args.parts.now is c.served_inputs-rest.result
       c.clear.new.self c.served_inputs-rest.ensures c.clear.ensures;
+  others = λ i free. refl;
 }
 
 pub without-rest-requires : goal.without-rest-requires
@@ -71,6 +73,7 @@ loop-port-preserved c = record {
       let left = c.loop-port.invariant.left i c.in-Some.ensures.member in
       let inside : i < ports_of plan = let below = left.0 in omega arith in
       absurd (some-part scheduler plan t given m parts is i inside left.1 (no-value (slice_index_or parts i None) c.in_default-parts.not-Some));
+  others = c.loop-port.invariant.others;
 }
 
 pub loop-port-preserved-in-Some-parts : goal.loop-port-preserved-in-Some-parts
@@ -98,6 +101,9 @@ loop-port-preserved-in-Some-parts c = record {
       (served-more scheduler plan t given m parts is i inside part own c.loop-port.rest c.without-rest.result c.loop-port.inputs c.leave-name.new.self
       c.loop-port.names after c.leave-name.result so_far member c.without-rest.ensures.members c.leave-name.ensures.plans c.leave-name.ensures.others
       there_now left_now (c.leave-name.ensures.name there.0 served at has fits));
+  others = λ i free.
+      let serves = (c.loop-port.invariant.left c.in-Some.port c.in-Some.ensures.member).1 in
+      c.leave-name.ensures.others i (λ same. serves (subst (IsFreeInput c.args.matched.now) same free)) ∙ c.loop-port.invariant.others i free;
 }
 
 pub returns : goal.returns
@@ -109,4 +115,5 @@ returns c = record {
       (c.loop-port.invariant.served scheduler plan t
       (record { scheduling = scheduling; good = good; inputs_are = are; matched_is = matched; parts_are = parts }))
       (λ i. zero-has c.loop-port.rest i (c.in_default.ensures.none.0 refl));
+  others = c.loop-port.invariant.others;
 }

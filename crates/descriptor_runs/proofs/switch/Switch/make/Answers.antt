@@ -14,6 +14,7 @@ use Rattle.run_laws.specs.Runs.{ports_of, card_at, before_under}
 use Rattle.descriptor_runs.specs.OutputSteps.{OutputValue, HasCome}
 use Rattle.descriptor_runs.specs.SwitchSteps.{IsNameOf}
 use Rattle.descriptor_runs.proofs.Keeping.{new_come, new_keeps}
+use Rattle.descriptor_runs.proofs.Resting.{rests-first}
 use Rattle.descriptor_runs.proofs.switch.Switch.make.Goals as goal
 
 pub make-requires-clause-good : goal.make-requires-clause-good
@@ -58,6 +59,7 @@ returns-clause-before c =
         come = λ j output at. subst (HasCome (decision_named c.args.scheduler) plan 1 j) (sym (c.in_ok-outputs.ensures.each j output at))
             (new_come c.args.captures (decision_named c.args.scheduler) plan j);
       };
+      resting = rests-first c.in_ok-make.field-0 c.new-3.result c.in_ok-make.ensures.served;
     }
 
 pub returns-clause-kept : goal.returns-clause-kept
