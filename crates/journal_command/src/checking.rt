@@ -25,8 +25,7 @@ pub fn check_file<F: Files>(
     scheduler: SchedulerName,
     files: &mut F,
 ) -> CheckEnding
-    ensures meaning { MeansCheck (decision_named scheduler) name.now (F.told files.old) (F.told files.new) (F.faults files.old) (F.faults files.new) result }
-    ensures seen { (c : Contents) → MeansCheck (decision_named scheduler) name.now (held (F.seen c files.old) (F.seen c files.new)) (F.seen c files.new)
+    ensures meaning { (c : Contents) → MeansCheck (decision_named scheduler) name.now (held (F.seen c files.old) (F.seen c files.new)) (F.seen c files.new)
         (F.faults files.old) (F.faults files.new) result }
     ensures no_fault { result ≡ Yes → NoneRose (F.faults files.old) (F.faults files.new) }
     ensures refused { OnlyRose (refused_by result) (F.faults files.old) (F.faults files.new) }
@@ -52,9 +51,7 @@ fn tell_yes<F: Files>(
     longest: &[u32; LEVEL_COUNT],
     files: &mut F,
 ) -> CheckEnding
-    ensures meaning { (scheduler : Scheduler) → IsAnswered scheduler name.now (F.told files.old) (Ok (verdict.Yes slots longest.now))
-        → MeansCheck scheduler name.now (F.told files.old) (F.told files.new) (F.faults files.old) (F.faults files.new) result }
-    ensures seen { (scheduler : Scheduler) (c : Contents) → IsAnswered scheduler name.now (F.seen c files.old) (Ok (verdict.Yes slots longest.now))
+    ensures meaning { (scheduler : Scheduler) (c : Contents) → IsAnswered scheduler name.now (F.seen c files.old) (Ok (verdict.Yes slots longest.now))
         → MeansCheck scheduler name.now (F.seen c files.old) (F.seen c files.new) (F.faults files.old) (F.faults files.new) result }
     ensures no_fault { result ≡ Yes → NoneRose (F.faults files.old) (F.faults files.new) }
     ensures refused { OnlyRose (refused_by result) (F.faults files.old) (F.faults files.new) }

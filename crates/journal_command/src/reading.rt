@@ -16,18 +16,14 @@ pub(crate) fn read_journal<F: Files>(
     name: &str,
     files: &mut F,
 ) -> Result<Vec<u8>, CheckEnding>
-    ensures told { F.told files.new ≡ F.told files.old }
+    ensures seen { (c : Contents) → Stays (F.seen c files.old) (F.seen c files.new) }
     ensures no_fault { OnOk result (NoneRose (F.faults files.old) (F.faults files.new)) }
     ensures refused { IfErr result (λ ending. OnlyRose (refused_by ending) (F.faults files.old) (F.faults files.new)) }
     ensures never_fall { NeverFall (F.faults files.old) (F.faults files.new) }
-    ensures bytes { IfOk result (λ v. IfSome (F.told files.old) (λ c. c.file name.now ≡ Some v.items)) }
-    ensures seen { (c : Contents) → Stays (F.seen c files.old) (F.seen c files.new) }
-    ensures seen_bytes { IfOk result (λ v. (c : Contents) → IfSome (F.seen c files.new) (λ d. d.file name.now ≡ Some v.items)) }
+    ensures bytes { (c : Contents) → IfOk result (λ v. IfSome (F.seen c files.new) (λ d. d.file name.now ≡ Some v.items)) }
     ensures fits { IfOk result (λ v. length v.items ≤ MAX_JOURNAL_BYTES) }
     ensures no_yes { IfErr result (λ ending. ending ≢ Yes) }
-    ensures stops { (scheduler : Scheduler)
-        → IfErr result (MeansCheck scheduler name.now (F.told files.old) (F.told files.new) (F.faults files.old) (F.faults files.new)) }
-    ensures seen_stops { (scheduler : Scheduler) (c : Contents)
+    ensures stops { (scheduler : Scheduler) (c : Contents)
         → IfErr result (MeansCheck scheduler name.now (F.seen c files.new) (F.seen c files.new) (F.faults files.old) (F.faults files.new)) }
 {
     let mut piece = read_buffer(alloc).map_err(|_| CheckEnding::OutOfMemory)?;

@@ -62,7 +62,7 @@ file-append_file-begin_file name more c = file-append_file name more [] (begin_f
 pub begun-begin_file : (name : List ℕ) (c : Contents) → (begin_file name c).begun name ≡ true
 begun-begin_file name c = rw (bytes_eq-same name) refl
 
--- The same of contents that are told or not
+-- The same of contents that are seen or not
 
 -- one effect after another
 pub option_map-option_map : (f g : Contents → Contents) (o : Option Contents) → option_map g (option_map f o) ≡ option_map (λ c. g (f c)) o

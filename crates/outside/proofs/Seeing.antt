@@ -1,10 +1,10 @@
--- A read that gave a piece: what is told after it has that piece.
+-- A read that gave a piece: what is seen after it has that piece, and depends on the file that was read alone.
 use Rattle.std.proofs.Common.{◌≡◌, ◌≤◌, ◌<◌, ℕ, Bool, true, false, List, take, drop, length, Option, Some, None, refl, ◌∙◌, ap, arith, inl, inr}
 use Rattle.std.specs.Prelude.{IfSome, nat_lt, ◌==◌, ◌||◌, option_and_then, if◌then◌else◌}
 use Rattle.std.proofs.lemmas.Bool.{and_parts, cases_lt, eqb-true, lt-ltb, ltb-true, or_cases}
 use Rattle.std.proofs.lemmas.List.{length-drop, length-take, length-take-le}
 use Rattle.std.proofs.lemmas.Slice.Eq.{bytes_eq-Decides}
-use Rattle.outside.specs.Contents.{Contents, GivesPiece, Stays}
+use Rattle.outside.specs.Contents.{AreAlike, Contents, GivesPiece, Stays}
 use Rattle.outside.specs.Events.{agreeing, has_piece}
 
 agreeing_if : (b : Bool) (c : Contents) → Stays (Some c) (if b then Some c else None)
@@ -56,3 +56,17 @@ agreeing_GivesPiece name at room buf k None short = tt
 agreeing_GivesPiece name at room buf k (Some c) short =
     gives_if (has_piece (c.file name) at room (take k buf)) (λ d. GivesPiece (d.file name) at room buf k) c
     (has_GivesPiece (c.file name) at room buf k short)
+
+alike_if : (named : List ℕ → Bool) (b : Bool) (c d : Contents) → AreAlike named (Some c) (Some d)
+    → AreAlike named (if b then Some c else None) (if b then Some d else None)
+alike_if named true c d alike = alike
+alike_if named false c d alike = tt
+
+-- a read of a named file leaves alike what was alike
+pub agreeing_AreAlike : (named : List ℕ → Bool) (name : List ℕ) (at room : ℕ) (piece : List ℕ) (o p : Option Contents) → named name ≡ true
+    → AreAlike named o p → AreAlike named (option_and_then (agreeing name at room piece) o) (option_and_then (agreeing name at room piece) p)
+agreeing_AreAlike named name at room piece None None is alike = tt
+agreeing_AreAlike named name at room piece (Some c) (Some d) is alike =
+    rw (← alike name is) (alike_if named (has_piece (c.file name) at room piece) c d alike)
+agreeing_AreAlike named name at room piece None (Some d) is alike = absurd alike
+agreeing_AreAlike named name at room piece (Some c) None is alike = absurd alike

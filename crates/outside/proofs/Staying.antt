@@ -1,4 +1,4 @@
--- What is told stays from call to call, or is told no more.
+-- What is seen stays from call to call, or is seen no more.
 use Rattle.std.proofs.Common.{◌≡◌, Option, Some, None, refl}
 use Rattle.std.specs.Prelude.{IfSome}
 use Rattle.outside.specs.Contents.{Contents, Stays, held}
@@ -11,12 +11,12 @@ pub Stays-trans : (a b d : Option Contents) → Stays a b → Stays b d → Stay
 Stays-trans a b None first then = tt
 Stays-trans a b (Some c) first then = rw then at first
 
--- what holds of what is told holds for as long as that stays
+-- what holds of what is seen holds for as long as that stays
 pub IfSome-Stays : (o n : Option Contents) (P : Contents → Type 0) → Stays o n → IfSome o P → IfSome n P
 IfSome-Stays o None P stays holds = tt
 IfSome-Stays o (Some c) P stays holds = rw stays at holds
 
--- what was told before and is told still is what is told
+-- what was seen before and is seen still is what is seen
 pub held-Stays : (o n : Option Contents) → Stays o n → held o n ≡ n
 held-Stays o None stays = refl
 held-Stays o (Some c) stays = stays

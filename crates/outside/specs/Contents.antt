@@ -1,5 +1,5 @@
--- What is told of the outside, and what each call makes of it.
-use Rattle.std.specs.Prelude.{◌≡◌, ◌<◌, ◌≤◌, ◌↔◌, ℕ, Bool, ◌||◌, List, [], ◌++◌, take, drop, length, Option, None, Some, Result, Ok, Err, option_map}
+-- What is seen of the outside, and what each call makes of it.
+use Rattle.std.specs.Prelude.{◌≡◌, ◌<◌, ◌≤◌, ◌↔◌, ℕ, Bool, true, ◌||◌, List, [], ◌++◌, take, drop, length, Option, None, Some, Result, Ok, Err, option_map}
 use Rattle.std.specs.Prelude.{IfSome, bytes_eq, if◌then◌else◌}
 
 -- The bytes of each file that is there, by its name; the names that were begun; and all bytes that standard output and standard error were given.
@@ -35,25 +35,25 @@ append_out more c = record { file = c.file; begun = c.begun; out = c.out ++ more
 abbrev pub append_err : List ℕ → Contents → Contents
 append_err more c = record { file = c.file; begun = c.begun; out = c.out; err = c.err ++ more }
 
--- what is told after a `begin` that answered this: the file is begun, or all is as before
+-- what is seen after a `begin` that answered this: the file is begun, or all is as before
 abbrev pub after_begin : {T E : Type 0} → Result T E → List ℕ → Option Contents → Option Contents
-after_begin (Ok done) name told = option_map (begin_file name) told
-after_begin (Err failure) name told = told
+after_begin (Ok done) name before = option_map (begin_file name) before
+after_begin (Err failure) name before = before
 
 -- after a `write` of these bytes: the first k of them are at the file's end, or all is as before
 abbrev pub after_write : {E : Type 0} → Result ℕ E → List ℕ → List ℕ → Option Contents → Option Contents
-after_write (Ok k) name bytes told = option_map (append_file name (take k bytes)) told
-after_write (Err failure) name bytes told = told
+after_write (Ok k) name bytes before = option_map (append_file name (take k bytes)) before
+after_write (Err failure) name bytes before = before
 
 -- after an `out` of these bytes: the first k of them were given to standard output, or all is as before
 abbrev pub after_out : {E : Type 0} → Result ℕ E → List ℕ → Option Contents → Option Contents
-after_out (Ok k) bytes told = option_map (append_out (take k bytes)) told
-after_out (Err failure) bytes told = told
+after_out (Ok k) bytes before = option_map (append_out (take k bytes)) before
+after_out (Err failure) bytes before = before
 
 -- after an `err` of these bytes: the first k of them were given to standard error, or all is as before
 abbrev pub after_err : {E : Type 0} → Result ℕ E → List ℕ → Option Contents → Option Contents
-after_err (Ok k) bytes told = option_map (append_err (take k bytes)) told
-after_err (Err failure) bytes told = told
+after_err (Ok k) bytes before = option_map (append_err (take k bytes)) before
+after_err (Err failure) bytes before = before
 
 -- The file is there, and the first k places of a buffer with this much room are its bytes from `at` on. There are none
 -- exactly where `at` is at or past its end.
@@ -64,11 +64,17 @@ pub record GivesPiece (file : Option (List ℕ)) (at room : ℕ) (buf : List ℕ
   pub same : take k buf ≡ take k (drop at bytes)
   pub end : 0 < room → (k ≡ 0) ↔ (length bytes ≤ at)
 
--- what was told stays, or is told no more
+-- what was seen stays, or is seen no more
 abbrev pub Stays : Option Contents → Option Contents → Type 0
 Stays before after = IfSome after (λ c. before ≡ Some c)
 
--- what was told before, where it is told still
+-- the same is seen of each file that is named so; or neither is seen any more
+abbrev pub AreAlike : (List ℕ → Bool) → Option Contents → Option Contents → Type 0
+AreAlike named None None = Unit {0}
+AreAlike named (Some c) (Some d) = (name : List ℕ) → named name ≡ true → c.file name ≡ d.file name
+AreAlike named _ _ = ⊥
+
+-- what was seen before, where it is seen still
 abbrev pub held : Option Contents → Option Contents → Option Contents
 held before None = None
 held before (Some c) = before

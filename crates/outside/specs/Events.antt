@@ -22,13 +22,13 @@ has_piece (Some bytes) at room piece =
 abbrev pub agreeing : List ℕ → (at room : ℕ) → List ℕ → Contents → Option Contents
 agreeing name at room piece c = if has_piece (c.file name) at room piece then Some c else None
 
--- what is held after one more call, where it is told before it: a read that gave what the file does not have ends that
+-- what is seen after one more call, by what was seen before it: a read that gave what the file does not have ends that
 abbrev pub seen_after : Event → Option Contents → Option Contents
-seen_after (Gave name at room piece) told = option_and_then (agreeing name at room piece) told
-seen_after (Began name) told = option_map (begin_file name) told
-seen_after (Took name bytes) told = option_map (append_file name bytes) told
-seen_after (TookOut bytes) told = option_map (append_out bytes) told
-seen_after (TookErr bytes) told = option_map (append_err bytes) told
+seen_after (Gave name at room piece) before = option_and_then (agreeing name at room piece) before
+seen_after (Began name) before = option_map (begin_file name) before
+seen_after (Took name bytes) before = option_map (append_file name bytes) before
+seen_after (TookOut bytes) before = option_map (append_out bytes) before
+seen_after (TookErr bytes) before = option_map (append_err bytes) before
 
 -- what files hold after these calls, where they held this at the first; None where a read gave something else
 abbrev pub seen : List Event → Contents → Option Contents

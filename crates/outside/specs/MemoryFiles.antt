@@ -45,7 +45,7 @@ contents_among files out err = record {
   err = err;
 }
 
--- the contents that are told
+-- what they hold, and what standard output and standard error were given
 abbrev pub contents_of : MemoryState → Contents
 contents_of m = contents_among m.files m.out m.err
 

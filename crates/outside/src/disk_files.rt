@@ -1,4 +1,4 @@
-ghost use Rattle.std.specs.Prelude.{◌≡◌, ◌≤◌, ◌<◌, [], None, take, length, IfOk};
+ghost use Rattle.std.specs.Prelude.{◌≡◌, ◌≤◌, ◌<◌, [], take, length, IfOk};
 ghost use Rattle.outside.specs.Calls.{counts_of_kinds, no_calls, one_more};
 ghost use Rattle.outside.specs.Events.{Gave, Began, Took, noted_if, seen};
 
@@ -15,8 +15,8 @@ use std::{fs, rt};
 /// The files of the system, standard output and standard error. For each kind of call one count stands for the
 /// faults of all names: after 2^64 - 1 of them it stays.
 ///
-/// Nothing is told of what they hold. What is seen is what the calls of this process gave and took, over
-/// whatever contents they had at the first.
+/// What is seen of them is what the calls of this process gave and took, over whatever contents they had at
+/// the first.
 ///
 /// The file that is read and the file that is written are left open from one piece to the next.
 #[derive(Drop)]
@@ -138,8 +138,6 @@ impl<'r, R: rt::Files + Print + StandardError + AllocGlobal> DiskFiles<'r, R> {
 }
 
 impl<'r, R: rt::Files + Print + StandardError + AllocGlobal> Files for DiskFiles<'r, R> {
-    ghost told = { λ _. None };
-
     ghost seen = { λ c d. seen d.calls c };
 
     ghost faults = { λ d. counts_of_kinds d.faults };

@@ -1,5 +1,5 @@
-ghost use Rattle.std.specs.Prelude.{◌≡◌, ◌≤◌, ◌<◌, ℕ, Option, true, length, IfOk, IfSome, OnErr, OnOk};
-ghost use Rattle.outside.specs.Contents.{Contents, GivesPiece, Stays, after_begin, after_err, after_out, after_write};
+ghost use Rattle.std.specs.Prelude.{◌≡◌, ◌≤◌, ◌<◌, ℕ, List, Bool, Option, true, length, IfOk, IfSome, OnErr, OnOk};
+ghost use Rattle.outside.specs.Contents.{AreAlike, Contents, GivesPiece, Stays, after_begin, after_err, after_out, after_write};
 ghost use Rattle.outside.specs.Faults.{Place, ReadOf, BeginOf, WriteOf, ToOut, ToErr, NeverFall, NoneRose, OnlyRose, Rose, of_err, of_reads, of_writes};
 
 use std::error::Error;
@@ -27,16 +27,13 @@ impl From<io::Error> for Failed {
 ///
 /// Each call may fail at any time, and a failure is counted: for each kind of call and each name there
 /// is a count of faults, which never falls. A call that goes well raises no count, and one that fails none
-/// but of its own side: of reads, of what is written, or of standard error. What the files hold is told, or
-/// it is not. What the calls gave and took is seen in any case: for each contents that the files may have had
-/// at the first call, it is what they hold now, unless a read gave something else.
+/// but of its own side: of reads, of what is written, or of standard error. What the calls gave and took is
+/// seen: for each contents that the files may have had at the first call, it is what they hold now, unless a
+/// read gave something else.
 pub trait Files {
-    /// What the files hold, which names were begun, and what standard output and standard error
-    /// were given; None where it is not told.
-    ghost told: { Self → Option Contents };
-
-    /// What the files hold now by what the calls gave and took, if they held these contents at the first call;
-    /// None once a read gave what they do not have.
+    /// What the files hold now, which names were begun, and what standard output and standard error were given,
+    /// by what the calls gave and took, if these were the contents at the first call; None once a read gave
+    /// what they do not have.
     ghost seen: { Contents → Self → Option Contents };
 
     /// How often a call of this kind and name failed.
@@ -46,10 +43,10 @@ pub trait Files {
     /// `buf` is not empty, 0 comes exactly where `at` is at or past the end. A name that is not
     /// there is a fault.
     fn read(&mut self, name: &str, at: u64, buf: &mut [u8]) -> Result<usize, Failed>
-        ensures told { told self.new ≡ told self.old }
-        ensures piece { IfOk result (λ k. IfSome (told self.old) (λ c. GivesPiece (c.file name.now) at (length buf.old) buf.new k)) }
         ensures seen { (c : Contents) → Stays (seen c self.old) (seen c self.new) }
-        ensures seen_piece { (c : Contents) → IfOk result (λ k. IfSome (seen c self.new) (λ d. GivesPiece (d.file name.now) at (length buf.old) buf.new k)) }
+        ensures piece { (c : Contents) → IfOk result (λ k. IfSome (seen c self.new) (λ d. GivesPiece (d.file name.now) at (length buf.old) buf.new k)) }
+        ensures own { (named : List ℕ → Bool) (c d : Contents) → named name.now ≡ true → AreAlike named (seen c self.old) (seen d self.old)
+            → AreAlike named (seen c self.new) (seen d self.new) }
         ensures room { IfOk result (λ k. k ≤ length buf.old) }
         ensures cause { OnErr result (Rose (faults self.old (ReadOf name.now)) (faults self.new (ReadOf name.now))) }
         ensures no_fault { OnOk result (NoneRose (faults self.old) (faults self.new)) }
@@ -58,7 +55,6 @@ pub trait Files {
 
     /// Makes the named file empty and begun, also where it was there.
     fn begin(&mut self, name: &str) -> Result<(), Failed>
-        ensures told { told self.new ≡ after_begin result name.now (told self.old) }
         ensures seen { (c : Contents) → seen c self.new ≡ after_begin result name.now (seen c self.old) }
         ensures cause { OnErr result (Rose (faults self.old (BeginOf name.now)) (faults self.new (BeginOf name.now))) }
         ensures no_fault { OnOk result (NoneRose (faults self.old) (faults self.new)) }
@@ -68,8 +64,7 @@ pub trait Files {
     /// Appends a first part of `bytes` to a file, which must have been begun, and answers its length in
     /// bytes: at least 1 where there are any.
     fn write(&mut self, name: &str, bytes: &[u8]) -> Result<usize, Failed>
-        requires begun { IfSome (told self.old) (λ c. c.begun name.now ≡ true) }
-        ensures told { told self.new ≡ after_write result name.now bytes.now (told self.old) }
+        requires begun { (c : Contents) → IfSome (seen c self.old) (λ d. d.begun name.now ≡ true) }
         ensures seen { (c : Contents) → seen c self.new ≡ after_write result name.now bytes.now (seen c self.old) }
         ensures room { IfOk result (λ k. k ≤ length bytes.now) }
         ensures some { IfOk result (λ k. 0 < length bytes.now → 0 < k) }
@@ -81,7 +76,6 @@ pub trait Files {
     /// Gives a first part of `bytes` to standard output, and answers its length in bytes: at least 1
     /// where there are any.
     fn out(&mut self, bytes: &[u8]) -> Result<usize, Failed>
-        ensures told { told self.new ≡ after_out result bytes.now (told self.old) }
         ensures seen { (c : Contents) → seen c self.new ≡ after_out result bytes.now (seen c self.old) }
         ensures room { IfOk result (λ k. k ≤ length bytes.now) }
         ensures some { IfOk result (λ k. 0 < length bytes.now → 0 < k) }
@@ -93,7 +87,6 @@ pub trait Files {
     /// Gives a first part of `bytes` to standard error, and answers its length in bytes: at least 1
     /// where there are any.
     fn err(&mut self, bytes: &[u8]) -> Result<usize, Failed>
-        ensures told { told self.new ≡ after_err result bytes.now (told self.old) }
         ensures seen { (c : Contents) → seen c self.new ≡ after_err result bytes.now (seen c self.old) }
         ensures room { IfOk result (λ k. k ≤ length bytes.now) }
         ensures some { IfOk result (λ k. 0 < length bytes.now → 0 < k) }

@@ -1,8 +1,8 @@
-ghost use Rattle.std.specs.Prelude.{◌≡◌, ◌≢◌, ◌≤◌, ◌<◌, ◌↔◌, ◌⊎◌, ◌+◌, ℕ, ◌++◌, true, Some, vec_capacity, length, take, drop, min, string_bytes};
+ghost use Rattle.std.specs.Prelude.{◌≡◌, ◌≢◌, ◌≤◌, ◌<◌, ◌↔◌, ◌⊎◌, ◌+◌, ℕ, List, Bool, ◌++◌, true, Some, vec_capacity, length, take, drop, min, string_bytes};
 ghost use Rattle.std.specs.Prelude.{AllPairs, IfOk, IsErr, IsNone, IsTrue, OnErr, OnOk};
 ghost use Rattle.std.specs.Option.{option_copied};
 ghost use Rattle.outside.specs.Calls.{no_calls, one_more};
-ghost use Rattle.outside.specs.Contents.{Contents, GivesPiece, after_begin, after_err, after_out, after_write};
+ghost use Rattle.outside.specs.Contents.{AreAlike, Contents, GivesPiece, after_begin, after_err, after_out, after_write};
 ghost use Rattle.outside.specs.Faults.{Place, ReadOf, BeginOf, WriteOf, ToOut, ToErr, NeverFall, NoneRose, OnlyRose, Rose, of_err, of_reads, of_writes};
 ghost use Rattle.outside.specs.MemoryFiles.{contents_of, contents_given, faults_of, faults_after, piece_length, HasNoRoom, IsToFail, MakesCall};
 
@@ -24,7 +24,7 @@ pub(crate) use calls::CallCounts;
 pub use calls::{Call, Fail};
 pub use given_files::names_differ;
 
-/// Files in memory, which tell their contents: for tests, and for whoever keeps no files on a disk.
+/// Files in memory, of which all that they hold is seen: for tests, and for whoever keeps no files on a disk.
 #[derive(Drop)]
 pub struct MemFiles {
     alloc: Global,
@@ -160,17 +160,16 @@ fn count_elsewhere(elsewhere: &mut CallCounts, call: Call) -> Failed
 // raises the counts of its own kind and name, or of all names that are not there, and no other. A call
 // that is not planned to fail, and needs no memory, does not fail.
 impl Files for MemFiles {
-    ghost told = { λ m. Some (contents_of m) };
-
     ghost seen = { λ c m. Some (contents_of m) };
 
     ghost faults = { faults_of };
 
     fn read(&mut self, name: &str, at: u64, buf: &mut [u8]) -> Result<usize, Failed>
-        ensures told { Some (contents_of self.new) ≡ Some (contents_of self.old) }
-        ensures piece { IfOk result (λ k. GivesPiece ((contents_of self.old).file name.now) at (length buf.old) buf.new k) }
         ensures seen { (c : Contents) → Some (contents_of self.new) ≡ Some (contents_of self.old) }
-        ensures seen_piece { (c : Contents) → IfOk result (λ k. GivesPiece ((contents_of self.new).file name.now) at (length buf.old) buf.new k) }
+        ensures piece { (c : Contents) → IfOk result (λ k. GivesPiece ((contents_of self.new).file name.now) at (length buf.old) buf.new k) }
+        ensures own { (named : List ℕ → Bool) (c d : Contents) → named name.now ≡ true
+            → AreAlike named (Some (contents_of self.old)) (Some (contents_of self.old))
+            → AreAlike named (Some (contents_of self.new)) (Some (contents_of self.new)) }
         ensures room { IfOk result (λ k. k ≤ length buf.old) }
         ensures cause { OnErr result (Rose (faults_of self.old (ReadOf name.now)) (faults_of self.new (ReadOf name.now))) }
         ensures no_fault { OnOk result (NoneRose (faults_of self.old) (faults_of self.new)) }
@@ -192,7 +191,6 @@ impl Files for MemFiles {
     }
 
     fn begin(&mut self, name: &str) -> Result<(), Failed>
-        ensures told { Some (contents_of self.new) ≡ after_begin result name.now (Some (contents_of self.old)) }
         ensures seen { (c : Contents) → Some (contents_of self.new) ≡ after_begin result name.now (Some (contents_of self.old)) }
         ensures cause { OnErr result (Rose (faults_of self.old (BeginOf name.now)) (faults_of self.new (BeginOf name.now))) }
         ensures no_fault { OnOk result (NoneRose (faults_of self.old) (faults_of self.new)) }
@@ -215,7 +213,6 @@ impl Files for MemFiles {
 
     fn write(&mut self, name: &str, bytes: &[u8]) -> Result<usize, Failed>
         requires begun { (contents_of self.old).begun name.now ≡ true }
-        ensures told { Some (contents_of self.new) ≡ after_write result name.now bytes.now (Some (contents_of self.old)) }
         ensures seen { (c : Contents) → Some (contents_of self.new) ≡ after_write result name.now bytes.now (Some (contents_of self.old)) }
         ensures room { IfOk result (λ k. k ≤ length bytes.now) }
         ensures some { IfOk result (λ k. 0 < length bytes.now → 0 < k) }
@@ -241,7 +238,6 @@ impl Files for MemFiles {
     }
 
     fn out(&mut self, bytes: &[u8]) -> Result<usize, Failed>
-        ensures told { Some (contents_of self.new) ≡ after_out result bytes.now (Some (contents_of self.old)) }
         ensures seen { (c : Contents) → Some (contents_of self.new) ≡ after_out result bytes.now (Some (contents_of self.old)) }
         ensures room { IfOk result (λ k. k ≤ length bytes.now) }
         ensures some { IfOk result (λ k. 0 < length bytes.now → 0 < k) }
@@ -267,7 +263,6 @@ impl Files for MemFiles {
     }
 
     fn err(&mut self, bytes: &[u8]) -> Result<usize, Failed>
-        ensures told { Some (contents_of self.new) ≡ after_err result bytes.now (Some (contents_of self.old)) }
         ensures seen { (c : Contents) → Some (contents_of self.new) ≡ after_err result bytes.now (Some (contents_of self.old)) }
         ensures room { IfOk result (λ k. k ≤ length bytes.now) }
         ensures some { IfOk result (λ k. 0 < length bytes.now → 0 < k) }

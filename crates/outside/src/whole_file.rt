@@ -57,17 +57,14 @@ fn read_into<F: Files>(
 ) -> Result<(), ReadFailure>
     requires room { 0 < length buf.old }
     requires empty { bytes.old.items ≡ [] }
-    ensures told { F.told files.new ≡ F.told files.old }
+    ensures seen { (c : Contents) → Stays (F.seen c files.old) (F.seen c files.new) }
     ensures no_fault { OnOk result (NoneRose (F.faults files.old) (F.faults files.new)) }
     ensures refused { IfErr result (λ failure. OnlyRose (refused_by failure) (F.faults files.old) (F.faults files.new)) }
     ensures never_fall { NeverFall (F.faults files.old) (F.faults files.new) }
-    ensures bytes { OnOk result (IfSome (F.told files.old) (λ c. c.file name.now ≡ Some bytes.new.items)) }
-    ensures seen { (c : Contents) → Stays (F.seen c files.old) (F.seen c files.new) }
-    ensures seen_bytes { OnOk result ((c : Contents) → IfSome (F.seen c files.new) (λ d. d.file name.now ≡ Some bytes.new.items)) }
+    ensures bytes { (c : Contents) → OnOk result (IfSome (F.seen c files.new) (λ d. d.file name.now ≡ Some bytes.new.items)) }
     ensures fits { OnOk result (length bytes.new.items ≤ limit) }
     ensures fault { IsErrOf result ReadFailure.Fault → Rose (F.faults files.old (ReadOf name.now)) (F.faults files.new (ReadOf name.now)) }
-    ensures too_long { IsErrOf result ReadFailure.TooLong → IfSome (F.told files.old) (λ c. IsLongerThan limit c name.now) }
-    ensures seen_too_long { IsErrOf result ReadFailure.TooLong → (c : Contents) → IfSome (F.seen c files.new) (λ d. IsLongerThan limit d name.now) }
+    ensures too_long { (c : Contents) → IsErrOf result ReadFailure.TooLong → IfSome (F.seen c files.new) (λ d. IsLongerThan limit d name.now) }
 {
     loop {
         let count = files.read(name, bytes.len() as u64, buf)?;
@@ -93,17 +90,14 @@ pub fn read_whole<F: Files>(
     buf: &mut [u8],
 ) -> Result<Vec<u8>, ReadFailure>
     requires { 0 < length buf.old }
-    ensures told { F.told files.new ≡ F.told files.old }
+    ensures seen { (c : Contents) → Stays (F.seen c files.old) (F.seen c files.new) }
     ensures no_fault { OnOk result (NoneRose (F.faults files.old) (F.faults files.new)) }
     ensures refused { IfErr result (λ failure. OnlyRose (refused_by failure) (F.faults files.old) (F.faults files.new)) }
     ensures never_fall { NeverFall (F.faults files.old) (F.faults files.new) }
-    ensures bytes { IfOk result (λ v. IfSome (F.told files.old) (λ c. c.file name.now ≡ Some v.items)) }
-    ensures seen { (c : Contents) → Stays (F.seen c files.old) (F.seen c files.new) }
-    ensures seen_bytes { IfOk result (λ v. (c : Contents) → IfSome (F.seen c files.new) (λ d. d.file name.now ≡ Some v.items)) }
+    ensures bytes { (c : Contents) → IfOk result (λ v. IfSome (F.seen c files.new) (λ d. d.file name.now ≡ Some v.items)) }
     ensures fits { IfOk result (λ v. length v.items ≤ limit) }
     ensures fault { IsErrOf result ReadFailure.Fault → Rose (F.faults files.old (ReadOf name.now)) (F.faults files.new (ReadOf name.now)) }
-    ensures too_long { IsErrOf result ReadFailure.TooLong → IfSome (F.told files.old) (λ c. IsLongerThan limit c name.now) }
-    ensures seen_too_long { IsErrOf result ReadFailure.TooLong → (c : Contents) → IfSome (F.seen c files.new) (λ d. IsLongerThan limit d name.now) }
+    ensures too_long { (c : Contents) → IsErrOf result ReadFailure.TooLong → IfSome (F.seen c files.new) (λ d. IsLongerThan limit d name.now) }
 {
     let mut bytes = Vec::new(alloc);
     read_into(files, name, limit, &mut bytes, buf)?;
@@ -112,9 +106,7 @@ pub fn read_whole<F: Files>(
 
 // Appends all of the bytes to a file that was begun, in as many calls as it takes.
 fn append_all<F: Files>(files: &mut F, name: &str, bytes: &[u8]) -> Result<(), Failed>
-    requires begun { IfSome (F.told files.old) (λ c. c.begun name.now ≡ true) }
-    ensures told { Appends result (record { name = name.now; bytes = bytes.now }) (F.faults files.old) (F.faults files.new) (F.told files.old)
-        (F.told files.new) }
+    requires begun { (c : Contents) → IfSome (F.seen c files.old) (λ d. d.begun name.now ≡ true) }
     ensures seen { (c : Contents) → Appends result (record { name = name.now; bytes = bytes.now }) (F.faults files.old) (F.faults files.new)
         (F.seen c files.old) (F.seen c files.new) }
     ensures no_fault { OnOk result (NoneRose (F.faults files.old) (F.faults files.new)) }
@@ -131,7 +123,6 @@ fn append_all<F: Files>(files: &mut F, name: &str, bytes: &[u8]) -> Result<(), F
 /// Begins the named file and writes all of the bytes to it. Where a call fails, the file is as before,
 /// or holds a first part of the bytes.
 pub fn put_whole<F: Files>(files: &mut F, name: &str, bytes: &[u8]) -> Result<(), Failed>
-    ensures told { Puts result (record { name = name.now; bytes = bytes.now }) (F.faults files.old) (F.faults files.new) (F.told files.old) (F.told files.new) }
     ensures seen { (c : Contents) → Puts result (record { name = name.now; bytes = bytes.now }) (F.faults files.old) (F.faults files.new)
         (F.seen c files.old) (F.seen c files.new) }
     ensures no_fault { OnOk result (NoneRose (F.faults files.old) (F.faults files.new)) }
@@ -145,7 +136,6 @@ pub fn put_whole<F: Files>(files: &mut F, name: &str, bytes: &[u8]) -> Result<()
 /// Gives all of the bytes to standard output, in as many calls as it takes. Where a call fails, standard
 /// output was given a first part of them.
 pub fn put_out<F: Files>(files: &mut F, bytes: &[u8]) -> Result<(), Failed>
-    ensures told { GivesOut result bytes.now (F.told files.old) (F.told files.new) }
     ensures seen { (c : Contents) → GivesOut result bytes.now (F.seen c files.old) (F.seen c files.new) }
     ensures cause { OnErr result (Rose (F.faults files.old ToOut) (F.faults files.new ToOut)) }
     ensures no_fault { OnOk result (NoneRose (F.faults files.old) (F.faults files.new)) }

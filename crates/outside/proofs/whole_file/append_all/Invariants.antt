@@ -6,15 +6,13 @@ use Rattle.outside.proofs.whole_file.append_all.Given as goal
 
 abbrev pub invariant-loop-at : goal.invariant-loop-at
 invariant-loop-at g l =
-    let contents = g.F.Files.told in
     let counts = g.F.Files.faults in
     record {
-      told : contents l.files ≡ option_map (append_file l.name (take l.at l.bytes)) (contents l.fn.files);
       seen : (c : Contents) → g.F.Files.seen c l.files ≡ option_map (append_file l.name (take l.at l.bytes)) (g.F.Files.seen c l.fn.files);
       no_fault : NoneRose (counts l.fn.files) (counts l.files);
       never_fall : NeverFall (counts l.fn.files) (counts l.files);
       within : l.at ≤ length l.bytes;
-      begun : IfSome (contents l.files) (λ c. c.begun l.name ≡ true);
+      begun : (c : Contents) → IfSome (g.F.Files.seen c l.files) (λ d. d.begun l.name ≡ true);
     }
 
 abbrev pub decreases-loop-at : goal.decreases-loop-at

@@ -6,11 +6,6 @@ use Rattle.outside.specs.Contents.{append_out}
 use Rattle.outside.proofs.Effects.{out_more}
 use Rattle.outside.proofs.whole_file.put_out.Goals as goal
 
-pub returns-in_err-at-clause-told : goal.returns-in_err-at-clause-told
-returns-in_err-at-clause-told g c =
-    let failed = err_from_is_err_and c.from_residual.result c.from_residual.ensures.1 in
-    rw failed.1 (c.loop-at.at, c.in_err-at.ensures.told ∙ c.loop-at.invariant.told)
-
 pub returns-in_err-at-clause-seen : goal.returns-in_err-at-clause-seen
 returns-in_err-at-clause-seen g c d =
     let failed = err_from_is_err_and c.from_residual.result c.from_residual.ensures.1 in
@@ -18,9 +13,6 @@ returns-in_err-at-clause-seen g c d =
 
 pub loop-at-preserved : goal.loop-at-preserved
 loop-at-preserved g c = record {
-  told = (rw take_rest at c.in_ok-at.ensures.told)
-      ∙ ap (option_map (append_out (take c.in_ok-at.field-0 (drop c.loop-at.at c.args.bytes.now)))) c.loop-at.invariant.told
-      ∙ out_more c.args.bytes.now c.loop-at.at c.in_ok-at.field-0 _;
   seen = λ d. (rw take_rest at (c.in_ok-at.ensures.seen d))
       ∙ ap (option_map (append_out (take c.in_ok-at.field-0 (drop c.loop-at.at c.args.bytes.now)))) (c.loop-at.invariant.seen d)
       ∙ out_more c.args.bytes.now c.loop-at.at c.in_ok-at.field-0 _;

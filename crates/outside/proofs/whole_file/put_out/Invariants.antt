@@ -6,10 +6,8 @@ use Rattle.outside.proofs.whole_file.put_out.Given as goal
 
 abbrev pub invariant-loop-at : goal.invariant-loop-at
 invariant-loop-at g l =
-    let contents = g.F.Files.told in
     let counts = g.F.Files.faults in
     record {
-      told : contents l.files ≡ option_map (append_out (take l.at l.bytes)) (contents l.fn.files);
       seen : (c : Contents) → g.F.Files.seen c l.files ≡ option_map (append_out (take l.at l.bytes)) (g.F.Files.seen c l.fn.files);
       no_fault : NoneRose (counts l.fn.files) (counts l.files);
       never_fall : NeverFall (counts l.fn.files) (counts l.files);

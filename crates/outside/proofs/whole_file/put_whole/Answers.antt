@@ -1,13 +1,6 @@
 use Rattle.outside.proofs.Putting.{begun_put}
 use Rattle.outside.proofs.whole_file.put_whole.Goals as goal
 
-pub returns-clause-told : goal.returns-clause-told
-returns-clause-told g c =
-    let counts = g.F.Files.faults in
-    begun_put c.append_all.result (record { name = c.args.name.now; bytes = c.args.bytes.now }) (counts c.args.files.now) (counts c.begin.new.self)
-    (counts c.append_all.new.files) _ _ _
-    c.in_ok-begin.ensures.never_fall c.in_ok-begin.ensures.told c.append_all.ensures.told
-
 pub returns-clause-seen : goal.returns-clause-seen
 returns-clause-seen g c d =
     let counts = g.F.Files.faults in

@@ -5,19 +5,12 @@ use Rattle.outside.proofs.Staying.{IfSome-Stays, Stays-trans}
 use Rattle.outside.proofs.whole_file.read_into.Goals as goal
 
 pub returns-then-count-eq0-clause-bytes : goal.returns-then-count-eq0-clause-bytes
-returns-then-count-eq0-clause-bytes g c =
-    let n : c.len.result ≡ length c.loop-count.bytes.items = search rules in
-    wholes _ _ c.loop-count.bytes.items c.read.new.buf (length c.loop-count.buf) c.loop-count.invariant.front
-    (piece_here _ _ _ _ _ _ _ _ _ c.loop-count.invariant.told n c.if-count-eq0.true c.in_ok-count.ensures.piece)
-    (omega (arith, c.loop-count.auto.buf, c.requires.room))
-
-pub returns-then-count-eq0-clause-seen_bytes : goal.returns-then-count-eq0-clause-seen_bytes
-returns-then-count-eq0-clause-seen_bytes g c d =
+returns-then-count-eq0-clause-bytes g c d =
     let see = g.F.Files.seen d in
     let n : c.len.result ≡ length c.loop-count.bytes.items = search rules in
     wholes (see c.read.new.self) c.args.name.now c.loop-count.bytes.items c.read.new.buf (length c.loop-count.buf)
-    (IfSome-Stays (see c.loop-count.files) (see c.read.new.self) _ (c.in_ok-count.ensures.seen d) (c.loop-count.invariant.seen_front d))
-    (piece_here _ _ _ _ _ _ _ _ _ refl n c.if-count-eq0.true (c.in_ok-count.ensures.seen_piece d))
+    (IfSome-Stays (see c.loop-count.files) (see c.read.new.self) _ (c.in_ok-count.ensures.seen d) (c.loop-count.invariant.front d))
+    (piece_here _ _ _ _ _ _ _ _ n c.if-count-eq0.true (c.in_ok-count.ensures.piece d))
     (omega (arith, c.loop-count.auto.buf, c.requires.room))
 
 pub loop-count-preserved : goal.loop-count-preserved
@@ -35,16 +28,13 @@ loop-count-preserved g c =
     let sum : length (c.loop-count.bytes.items ++ take c.in_ok-count.count c.read.new.buf) ≡ length c.loop-count.bytes.items + length
     (take c.in_ok-count.count c.read.new.buf) = length-append c.loop-count.bytes.items (take c.in_ok-count.count c.read.new.buf) in
     record {
-      told = c.in_ok-count.ensures.told ∙ c.loop-count.invariant.told;
+      seen = λ d. Stays-trans (see d c.args.files.now) (see d c.loop-count.files) (see d c.read.new.self) (c.loop-count.invariant.seen d)
+          (c.in_ok-count.ensures.seen d);
       no_fault = λ p. c.in_ok-count.ensures.no_fault p ∙ c.loop-count.invariant.no_fault p;
       never_fall = λ p. omega (arith, c.loop-count.invariant.never_fall p, c.in_ok-count.ensures.never_fall p);
       most = rw e (omega arith);
-      front = rw e (longers _ _ c.loop-count.bytes.items c.read.new.buf (length c.loop-count.buf) c.in_ok-count.count c.loop-count.invariant.front
-          (piece_here _ _ _ _ _ _ _ _ _ c.loop-count.invariant.told n refl c.in_ok-count.ensures.piece));
-      seen = λ d. Stays-trans (see d c.args.files.now) (see d c.loop-count.files) (see d c.read.new.self) (c.loop-count.invariant.seen d)
-          (c.in_ok-count.ensures.seen d);
-      seen_front = λ d. rw e (longers (see d c.read.new.self) c.args.name.now c.loop-count.bytes.items c.read.new.buf (length c.loop-count.buf)
+      front = λ d. rw e (longers (see d c.read.new.self) c.args.name.now c.loop-count.bytes.items c.read.new.buf (length c.loop-count.buf)
           c.in_ok-count.count
-          (IfSome-Stays (see d c.loop-count.files) (see d c.read.new.self) _ (c.in_ok-count.ensures.seen d) (c.loop-count.invariant.seen_front d))
-          (piece_here _ _ _ _ _ _ _ _ _ refl n refl (c.in_ok-count.ensures.seen_piece d)));
+          (IfSome-Stays (see d c.loop-count.files) (see d c.read.new.self) _ (c.in_ok-count.ensures.seen d) (c.loop-count.invariant.front d))
+          (piece_here _ _ _ _ _ _ _ _ n refl (c.in_ok-count.ensures.piece d)));
     }

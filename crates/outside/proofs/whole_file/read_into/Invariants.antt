@@ -1,4 +1,4 @@
-use Rattle.std.proofs.Common.{◌≡◌, ◌≤◌, length, ◌-◌}
+use Rattle.std.proofs.Common.{◌≤◌, length, ◌-◌}
 use Rattle.std.specs.Prelude.{IfSome}
 use Rattle.outside.specs.Contents.{Contents, Stays}
 use Rattle.outside.specs.Faults.{NeverFall, NoneRose}
@@ -7,16 +7,13 @@ use Rattle.outside.proofs.whole_file.read_into.Given as goal
 
 abbrev pub invariant-loop-count : goal.invariant-loop-count
 invariant-loop-count g l =
-    let contents = g.F.Files.told in
     let counts = g.F.Files.faults in
     record {
-      told : contents l.files ≡ contents l.fn.files;
+      seen : (c : Contents) → Stays (g.F.Files.seen c l.fn.files) (g.F.Files.seen c l.files);
       no_fault : NoneRose (counts l.fn.files) (counts l.files);
       never_fall : NeverFall (counts l.fn.files) (counts l.files);
       most : length l.bytes.items ≤ l.limit;
-      front : IfSome (contents l.fn.files) (λ c. IsFrontOf (c.file l.name) l.bytes.items);
-      seen : (c : Contents) → Stays (g.F.Files.seen c l.fn.files) (g.F.Files.seen c l.files);
-      seen_front : (c : Contents) → IfSome (g.F.Files.seen c l.files) (λ d. IsFrontOf (d.file l.name) l.bytes.items);
+      front : (c : Contents) → IfSome (g.F.Files.seen c l.files) (λ d. IsFrontOf (d.file l.name) l.bytes.items);
     }
 
 abbrev pub decreases-loop-count : goal.decreases-loop-count

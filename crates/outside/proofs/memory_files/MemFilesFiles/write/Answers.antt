@@ -12,12 +12,12 @@ piece_long piece bytes most is = ap length is ∙ length-take-le (min most (leng
 piece_again : (piece bytes : List ℕ) (most : ℕ) → piece ≡ take (min most (length bytes)) bytes → take (length piece) bytes ≡ piece
 piece_again piece bytes most is = rw (piece_long piece bytes most is) (sym is)
 
-pub returns-then-fails_next-clause-told : goal.returns-then-fails_next-clause-told
-returns-then-fails_next-clause-told c =
+pub returns-then-fails_next-clause-seen : goal.returns-then-fails_next-clause-seen
+returns-then-fails_next-clause-seen c held =
     rw (← c.self.view_is) (ap Some (c.count_fault.ensures.contents c.self.inside.out.items c.self.inside.err.items))
 
-pub returns-in-Ok-clause-told : goal.returns-in-Ok-clause-told
-returns-in-Ok-clause-told c =
+pub returns-in-Ok-clause-seen : goal.returns-in-Ok-clause-seen
+returns-in-Ok-clause-seen c held =
     let m = c.self.inside in
     let piece = c.first_piece-piece.result.now in
     let f : FileState = c.in-Ok.ensures.ok.0 in
@@ -25,8 +25,8 @@ returns-in-Ok-clause-told c =
     (ap Some (appended_contents c.args.name.now m.files.items c.append_to.new.files.items f
     (record f { bytes = f.bytes ++ piece; room = c.in-Ok.ensures.ok.1 }) piece m.out.items m.err.items c.in-Ok.ensures.ok.2 c.in-Ok.ensures.ok.3 refl refl))
 
-pub returns-in-Err-clause-told : goal.returns-in-Err-clause-told
-returns-in-Err-clause-told c =
+pub returns-in-Err-clause-seen : goal.returns-in-Err-clause-seen
+returns-in-Err-clause-seen c held =
     let m = c.self.inside in
     rw (← c.self.view_is)
     (ap Some (c.count_fault-in-Err.ensures.contents m.out.items m.err.items ∙ ap (λ fs. contents_among fs m.out.items m.err.items) c.in-Err.ensures.err))
@@ -42,12 +42,3 @@ returns-in-Err-clause-cause_of_failure c =
       | inl none ↦ absurd (begun_is_there (file_named name m.files.items) none begun)
       | inr full ↦ inr (subst (λ (n : ℕ). HasNoRoom m.files.items name n) long full)
     ])
-
-pub returns-then-fails_next-clause-seen : goal.returns-then-fails_next-clause-seen
-returns-then-fails_next-clause-seen c held = returns-then-fails_next-clause-told c
-
-pub returns-in-Ok-clause-seen : goal.returns-in-Ok-clause-seen
-returns-in-Ok-clause-seen c held = returns-in-Ok-clause-told c
-
-pub returns-in-Err-clause-seen : goal.returns-in-Err-clause-seen
-returns-in-Err-clause-seen c held = returns-in-Err-clause-told c
