@@ -1,4 +1,4 @@
--- What is told of a check from a later state on holds from an earlier one that was told the same.
+-- What is said of a check from a later state on holds from an earlier one of which the same was seen.
 use Rattle.std.proofs.Common.{◌≡◌, ◌≤◌, ℕ, List, Option, None, Some, length, take, refl, subst, sym}
 use Rattle.std.specs.Prelude.{Result, IfSome, option_map}
 use Rattle.eslip_rounds.specs.Schedulers.{Scheduler}

@@ -1,49 +1,24 @@
-use Rattle.std.proofs.Common.{◌≡◌, ◌∙◌, Option, Some, Ok, sym, ap, subst, inl, inr}
-use Rattle.std.specs.Prelude.{IfSome}
+use Rattle.std.proofs.Common.{◌≡◌, ◌∙◌, Ok, sym, ap, inl, inr}
 use Rattle.named_schedulers.specs.Named.{decision_named}
-use Rattle.outside.specs.Contents.{Contents}
 use Rattle.journal_check.specs.declared.verdict.Verdict.TheVariants as verdict
 use Rattle.journal_check.specs.Verdicts.{answer_under}
-use Rattle.journal_command.specs.Checks.{IsAnswered, MeansCheck}
+use Rattle.journal_command.specs.Checks.{IsAnswered}
 use Rattle.journal_command.proofs.Later.{held_check, later_check, is_answered}
 use Rattle.journal_command.proofs.checking.check_file.Goals as goal
-
-pub returns-in-Err-clause-meaning : goal.returns-in-Err-clause-meaning
-returns-in-Err-clause-meaning g c = c.in-Err.ensures.stops (decision_named c.args.scheduler)
-
-pub returns-in-Ok-Yes-clause-meaning : goal.returns-in-Ok-Yes-clause-meaning
-returns-in-Ok-Yes-clause-meaning g c =
-    let s = decision_named c.args.scheduler in
-    let name = c.args.name.now in
-    let told = g.F.Files.told in
-    let same : told c.read_journal.new.files ≡ told c.args.files.now = c.in-Ok.ensures.told in
-    let bytes : c.deref.result.now ≡ c.in-Ok.bytes.items = c.deref.ensures.value in
-    let answer : answer_under s c.deref.result.now ≡ Ok (verdict.Yes c.in-Ok-Yes.slots c.in-Ok-Yes.longest) = elim c.check_journal_by.ensures [
-      | inl none ↦ absurd (let is = c.in-Ok-Yes.is in cc)
-      | inr is ↦ sym is ∙ c.in-Ok-Yes.is ∙ ap Ok c.in-Ok-Yes.field-0-is
-    ] in
-    let lawful : IsAnswered s name (told c.read_journal.new.files) (Ok (verdict.Yes c.in-Ok-Yes.slots c.in-Ok-Yes.longest)) =
-    is_answered s name c.in-Ok.bytes.items (Ok (verdict.Yes c.in-Ok-Yes.slots c.in-Ok-Yes.longest)) (told c.read_journal.new.files)
-    (subst (λ (o : Option Contents). IfSome o (λ (x : Contents). x.file name ≡ Some c.in-Ok.bytes.items)) (sym same) c.in-Ok.ensures.bytes)
-    c.in-Ok.ensures.fits (ap (answer_under s) (sym bytes) ∙ answer) in
-    later_check s name (told c.args.files.now) (g.F.Files.faults c.args.files.now) (g.F.Files.faults c.read_journal.new.files)
-    (g.F.Files.faults c.tell_yes.new.files) c.in-Ok.ensures.never_fall c.tell_yes.result (told c.tell_yes.new.files)
-    (subst (λ (o : Option Contents). MeansCheck s name o (told c.tell_yes.new.files) (g.F.Files.faults c.read_journal.new.files)
-    (g.F.Files.faults c.tell_yes.new.files) c.tell_yes.result) same (c.tell_yes.ensures.meaning s lawful))
 
 pub returns-in-Err-clause-no_fault : goal.returns-in-Err-clause-no_fault
 returns-in-Err-clause-no_fault g c is = absurd (c.in-Err.ensures.no_yes is)
 
-pub returns-in-Err-clause-seen : goal.returns-in-Err-clause-seen
-returns-in-Err-clause-seen g c d =
+pub returns-in-Err-clause-meaning : goal.returns-in-Err-clause-meaning
+returns-in-Err-clause-meaning g c d =
     let see = g.F.Files.seen d in
     let counts = g.F.Files.faults in
     held_check (decision_named c.args.scheduler) c.args.name.now (see c.args.files.now) (see c.read_journal.new.files) (counts c.args.files.now)
     (counts c.read_journal.new.files) (c.in-Err.ensures.seen d) _ (see c.read_journal.new.files)
-    (c.in-Err.ensures.seen_stops (decision_named c.args.scheduler) d)
+    (c.in-Err.ensures.stops (decision_named c.args.scheduler) d)
 
-pub returns-in-Ok-Yes-clause-seen : goal.returns-in-Ok-Yes-clause-seen
-returns-in-Ok-Yes-clause-seen g c d =
+pub returns-in-Ok-Yes-clause-meaning : goal.returns-in-Ok-Yes-clause-meaning
+returns-in-Ok-Yes-clause-meaning g c d =
     let s = decision_named c.args.scheduler in
     let name = c.args.name.now in
     let see = g.F.Files.seen d in
@@ -55,8 +30,8 @@ returns-in-Ok-Yes-clause-seen g c d =
     ] in
     let lawful : IsAnswered s name (see c.read_journal.new.files) (Ok (verdict.Yes c.in-Ok-Yes.slots c.in-Ok-Yes.longest)) =
     is_answered s name c.in-Ok.bytes.items (Ok (verdict.Yes c.in-Ok-Yes.slots c.in-Ok-Yes.longest)) (see c.read_journal.new.files)
-    (c.in-Ok.ensures.seen_bytes d) c.in-Ok.ensures.fits (ap (answer_under s) (sym bytes) ∙ answer) in
+    (c.in-Ok.ensures.bytes d) c.in-Ok.ensures.fits (ap (answer_under s) (sym bytes) ∙ answer) in
     held_check s name (see c.args.files.now) (see c.read_journal.new.files) (counts c.args.files.now) (counts c.tell_yes.new.files)
     (c.in-Ok.ensures.seen d) c.tell_yes.result (see c.tell_yes.new.files)
     (later_check s name (see c.read_journal.new.files) (counts c.args.files.now) (counts c.read_journal.new.files) (counts c.tell_yes.new.files)
-    c.in-Ok.ensures.never_fall c.tell_yes.result (see c.tell_yes.new.files) (c.tell_yes.ensures.seen s d lawful))
+    c.in-Ok.ensures.never_fall c.tell_yes.result (see c.tell_yes.new.files) (c.tell_yes.ensures.meaning s d lawful))
