@@ -14,10 +14,6 @@ Fits c name = (bytes : List ℕ) × (c.file name ≡ Some bytes) × (length byte
 abbrev pub IsLongerThan : ℕ → Contents → List ℕ → Type 0
 IsLongerThan limit c name = (bytes : List ℕ) × (c.file name ≡ Some bytes) × (limit < length bytes)
 
--- the file is there, and has more bytes than a file may have
-abbrev pub IsTooLong : Contents → List ℕ → Type 0
-IsTooLong c name = IsLongerThan MAX_FILE_BYTES c name
-
 -- of which calls one was refused where a file was not read so
 abbrev pub refused_by : ReadFailure → Place → Bool
 refused_by failure.Fault = of_reads
