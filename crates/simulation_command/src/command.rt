@@ -1,4 +1,5 @@
 ghost use Rattle.std.specs.Prelude.{◌≡◌, Err, Some, None, IfErr, IfOk, OnOk, map, string_bytes};
+ghost use Rattle.outside.specs.Contents.{Contents};
 ghost use Rattle.outside.specs.Faults.{NeverFall, NoneRose};
 ghost use Rattle.simulation_command.specs.Endings.{IsDone, IsText, Stops, command_of, simulation_by};
 ghost use Rattle.simulation_command.specs.FaultSteps.{IsRefused};
@@ -39,10 +40,10 @@ fn text_by(alloc: Global, words: &[String]) -> Result<String, CommandFault>
 
 // Gives standard output the text of the simulation that the words mean.
 fn tell<F: Files>(alloc: Global, words: &[String], files: &mut F) -> Result<(), CommandFault>
-    ensures done { OnOk result (IsDone (command_of (map string_bytes words.now) (F.told files.old) (F.told files.new) (F.faults files.old)
-        (F.faults files.new))) }
-    ensures stops { IfErr result (Stops (command_of (map string_bytes words.now) (F.told files.old) (F.told files.new) (F.faults files.old)
-        (F.faults files.new)) (F.told files.new)) }
+    ensures done { (c : Contents) → OnOk result (IsDone (command_of (map string_bytes words.now) (F.seen c files.old) (F.seen c files.new)
+        (F.faults files.old) (F.faults files.new))) }
+    ensures stops { (c : Contents) → IfErr result (Stops (command_of (map string_bytes words.now) (F.seen c files.old) (F.seen c files.new)
+        (F.faults files.old) (F.faults files.new)) (F.seen c files.new)) }
     ensures no_fault { OnOk result (NoneRose (F.faults files.old) (F.faults files.new)) }
     ensures never_fall { NeverFall (F.faults files.old) (F.faults files.new) }
 {
@@ -65,8 +66,8 @@ fn tell<F: Files>(alloc: Global, words: &[String], files: &mut F) -> Result<(), 
 /// No file is read or written, and nothing is given to standard output before the last slot. Each status but 0 gives one
 /// line to standard error; where a call of that is refused, the rest of the line is left out, and the status stays.
 pub fn simulate_main<F: Files>(alloc: Global, words: &[String], files: &mut F) -> u8
-    ensures { SimulationTheorem (command_of (map string_bytes words.now) (F.told files.old) (F.told files.new) (F.faults files.old)
-        (F.faults files.new)) result }
+    ensures { (c : Contents) → SimulationTheorem (command_of (map string_bytes words.now) (F.seen c files.old) (F.seen c files.new)
+        (F.faults files.old) (F.faults files.new)) result }
 {
     match tell(alloc, words, files) {
         Ok(()) => 0,

@@ -1,5 +1,6 @@
 ghost use Rattle.std.specs.Prelude.{◌≡◌, map, OnErr, OnOk};
 ghost use Rattle.std.specs.List.{concat};
+ghost use Rattle.outside.specs.Contents.{Contents};
 ghost use Rattle.outside.specs.Faults.{ToErr, NeverFall, NoneRose, Rose};
 ghost use Rattle.simulation_command.specs.ErrorLines.{GivesLine, line_of};
 ghost use Rattle.simulation_command.specs.LineSteps.{Gives};
@@ -10,7 +11,7 @@ use outside::{Failed, Files};
 
 // Gives all of the bytes to standard error, in as many calls as it takes.
 fn give_bytes<F: Files>(files: &mut F, bytes: &[u8]) -> Result<(), Failed>
-    ensures told { Gives result bytes.now (F.told files.old) (F.told files.new) }
+    ensures seen { (c : Contents) → Gives result bytes.now (F.seen c files.old) (F.seen c files.new) }
     ensures cause { OnErr result (Rose (F.faults files.old ToErr) (F.faults files.new ToErr)) }
     ensures no_fault { OnOk result (NoneRose (F.faults files.old) (F.faults files.new)) }
     ensures never_fall { NeverFall (F.faults files.old) (F.faults files.new) }
@@ -24,7 +25,7 @@ fn give_bytes<F: Files>(files: &mut F, bytes: &[u8]) -> Result<(), Failed>
 
 // Gives all of a part of a line to standard error.
 fn give_part<F: Files>(files: &mut F, part: &str) -> Result<(), Failed>
-    ensures told { Gives result part.now (F.told files.old) (F.told files.new) }
+    ensures seen { (c : Contents) → Gives result part.now (F.seen c files.old) (F.seen c files.new) }
     ensures cause { OnErr result (Rose (F.faults files.old ToErr) (F.faults files.new ToErr)) }
     ensures no_fault { OnOk result (NoneRose (F.faults files.old) (F.faults files.new)) }
     ensures never_fall { NeverFall (F.faults files.old) (F.faults files.new) }
@@ -34,8 +35,8 @@ fn give_part<F: Files>(files: &mut F, part: &str) -> Result<(), Failed>
 
 // Gives the parts of a line to standard error, one after the other, up to a call that fails.
 fn give_parts<F: Files>(files: &mut F, parts: &[&str])
-    ensures line { GivesLine (concat (map (λ part. part.now) parts.now)) (F.told files.old) (F.told files.new) (F.faults files.old ToErr)
-        (F.faults files.new ToErr) }
+    ensures line { (c : Contents) → GivesLine (concat (map (λ part. part.now) parts.now)) (F.seen c files.old) (F.seen c files.new)
+        (F.faults files.old ToErr) (F.faults files.new ToErr) }
     ensures never_fall { NeverFall (F.faults files.old) (F.faults files.new) }
 {
     for part in parts {
@@ -47,7 +48,8 @@ fn give_parts<F: Files>(files: &mut F, parts: &[&str])
 
 /// Gives standard error the line of a fault. Where a call fails, the rest of the line is left out.
 pub(crate) fn print_fault<F: Files>(files: &mut F, fault: CommandFault)
-    ensures line { GivesLine (line_of fault) (F.told files.old) (F.told files.new) (F.faults files.old ToErr) (F.faults files.new ToErr) }
+    ensures line { (c : Contents) → GivesLine (line_of fault) (F.seen c files.old) (F.seen c files.new) (F.faults files.old ToErr)
+        (F.faults files.new ToErr) }
     ensures never_fall { NeverFall (F.faults files.old) (F.faults files.new) }
 {
     match fault {

@@ -1,15 +1,14 @@
 use Rattle.std.proofs.Common.{◌≡◌, ◌≤◌, length, ◌-◌, take}
 use Rattle.std.specs.Prelude.{option_map}
-use Rattle.outside.specs.Contents.{append_err}
+use Rattle.outside.specs.Contents.{Contents, append_err}
 use Rattle.outside.specs.Faults.{NeverFall, NoneRose}
 use Rattle.simulation_command.proofs.error_lines.give_bytes.Given as goal
 
 abbrev pub invariant-loop-at : goal.invariant-loop-at
 invariant-loop-at g l =
-    let contents = g.F.Files.told in
     let counts = g.F.Files.faults in
     record {
-      told : contents l.files ≡ option_map (append_err (take l.at l.bytes)) (contents l.fn.files);
+      seen : (c : Contents) → g.F.Files.seen c l.files ≡ option_map (append_err (take l.at l.bytes)) (g.F.Files.seen c l.fn.files);
       no_fault : NoneRose (counts l.fn.files) (counts l.files);
       never_fall : NeverFall (counts l.fn.files) (counts l.files);
       within : l.at ≤ length l.bytes;
