@@ -70,8 +70,8 @@ stopped c told OutFault kept stops line = record {
 }
 
 -- the command stopped, and then the line of its fault was given
-module _ (words : List (List ℕ)) (old mid new : Option Contents) (was between now : Place → ℕ) (kept : NeverFall was between) (after : NeverFall between now) where
-  later_stops : (fault : CommandFault) → Stops (command_of words old mid was between) mid fault → Stops (command_of words old new was now) mid fault
+module _ (words : List (List ℕ)) (old mid new : Option Contents) (was then now : Place → ℕ) (kept : NeverFall was then) (after : NeverFall then now) where
+  later_stops : (fault : CommandFault) → Stops (command_of words old mid was then) mid fault → Stops (command_of words old new was now) mid fault
   later_stops Usage stops = stops
   later_stops (TooManyCells cells) stops = stops
   later_stops OutOfMemory stops = stops
@@ -80,20 +80,20 @@ module _ (words : List (List ℕ)) (old mid new : Option Contents) (was between 
     made = stops.made;
     given = stops.given;
     told_is = stops.told_is;
-    rose = Rose-NeverFall was between now ToOut stops.rose after;
+    rose = Rose-NeverFall was then now ToOut stops.rose after;
   }
 
-  longer_line : (text : List ℕ) → GivesLine text mid new (between ToErr) (now ToErr) → GivesLine text mid new (was ToErr) (now ToErr)
+  longer_line : (text : List ℕ) → GivesLine text mid new (then ToErr) (now ToErr) → GivesLine text mid new (was ToErr) (now ToErr)
   longer_line text line = record {
     part = line.part;
     rest = line.rest;
     splits = line.splits;
     given = line.given;
-    whole = elim line.whole [ inl all ↦ inl all | inr rose ↦ inr (NeverFall-Rose was between now ToErr kept rose) ];
+    whole = elim line.whole [ inl all ↦ inl all | inr rose ↦ inr (NeverFall-Rose was then now ToErr kept rose) ];
   }
 
-  pub stopped_theorem : (fault : CommandFault) → Stops (command_of words old mid was between) mid fault
-      → GivesLine (line_of fault) mid new (between ToErr) (now ToErr) → SimulationTheorem (command_of words old new was now) (status_of fault)
+  pub stopped_theorem : (fault : CommandFault) → Stops (command_of words old mid was then) mid fault
+      → GivesLine (line_of fault) mid new (then ToErr) (now ToErr) → SimulationTheorem (command_of words old new was now) (status_of fault)
   stopped_theorem fault stops line =
-      stopped (command_of words old new was now) mid fault (NeverFall-trans was between now kept after) (later_stops fault stops)
+      stopped (command_of words old new was now) mid fault (NeverFall-trans was then now kept after) (later_stops fault stops)
       (longer_line (line_of fault) line)
