@@ -3,7 +3,8 @@ use Rattle.std.proofs.Common.{◌≡◌, ◌<◌, ◌≤◌, ◌+◌, ◌^◌, �
 use Rattle.std.specs.Prelude.{IfSome, Result, Vec, is_ok, true, false, if◌then◌else◌}
 use Rattle.std.proofs.lemmas.List.{length_push, map_more, map_push, take_more}
 use Rattle.std.proofs.lemmas.List.Elements.{All-more, All-push}
-use Rattle.outside.specs.Contents.{Contents}
+use Rattle.outside.specs.Contents.{Contents, Stays}
+use Rattle.outside.proofs.Staying.{IfSome-Stays}
 use Rattle.switch_words.specs.Limits.{IsUpTo}
 use Rattle.job_files.specs.Inputs.{AreFilesRead, CaptureFits, CapturesRead, EarlierFit}
 use Rattle.job_files.specs.FileSteps.{AreOfSize}
@@ -11,6 +12,15 @@ use Rattle.rotating_pick.specs.declared.limits.TheConstants.{MAX_PORTS}
 use Rattle.switch_plan.specs.ReadingSteps.{bytes_of_files}
 use Rattle.job_files.specs.Jobs.{ReadWords, capture_bytes}
 use Rattle.job_files.specs.declared.inputs.InputFile.TheVariants.{Capture}
+
+-- what was read is there for as long as what is seen stays
+pub CapturesRead-Stays : (long : Bool) (names : List (List ℕ)) (old new : Option Contents) (captures : List (List ℕ)) → Stays old new
+    → CapturesRead long names old captures → CapturesRead long names new captures
+CapturesRead-Stays long names old new captures stays read = record {
+  count = read.count;
+  fit = read.fit;
+  there = IfSome-Stays old new (λ c. map (λ name. c.file name) names ≡ map (λ bytes. Some bytes) captures) stays read.there;
+}
 
 -- one file more is there
 pub earlier_more : (r : ReadWords) (told : Option Contents) (port : ℕ) (bytes : List ℕ) → port < length r.inputs → IfSome told (EarlierFit r (Capture port))

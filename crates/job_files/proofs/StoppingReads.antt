@@ -1,5 +1,5 @@
 -- Why the files of a job are not read, over more calls than those that read them.
-use Rattle.std.proofs.Common.{◌≡◌, ℕ, Option, subst}
+use Rattle.std.proofs.Common.{ℕ, Option}
 use Rattle.outside.specs.Contents.{Contents}
 use Rattle.outside.specs.Faults.{Place, ReadOf, NeverFall}
 use Rattle.outside.proofs.Counting.{NeverFall-refl, Rose-wider}
@@ -23,8 +23,7 @@ StopsReading-wider r old a b c d OutOfMemory start end stops = stops
 StopsReading-wider r old a b c d (WriteFault written) start end stops = stops
 StopsReading-wider r old a b c d (Checked ending) start end stops = stops
 
--- after calls that left the contents
-pub StopsReading-since : (r : ReadWords) (old mid : Option Contents) (was b now : Place → ℕ) (ending : Ending) → mid ≡ old → NeverFall was b
-    → StopsReading r mid b now ending → StopsReading r old was now ending
-StopsReading-since r old mid was b now ending same kept stops =
-    StopsReading-wider r old was b now now ending kept (NeverFall-refl now) (subst (λ (o : Option Contents). StopsReading r o b now ending) same stops)
+-- after calls that came before
+pub StopsReading-since : (r : ReadWords) (seen : Option Contents) (was b now : Place → ℕ) (ending : Ending) → NeverFall was b
+    → StopsReading r seen b now ending → StopsReading r seen was now ending
+StopsReading-since r seen was b now ending kept stops = StopsReading-wider r seen was b now now ending kept (NeverFall-refl now) stops

@@ -1,5 +1,6 @@
 ghost use Rattle.std.specs.Prelude.{◌≡◌, [], ◌∷◌, ◌++◌, codes, decimal, map, OnErr, OnOk};
 ghost use Rattle.std.specs.List.{concat};
+ghost use Rattle.outside.specs.Contents.{Contents};
 ghost use Rattle.outside.specs.Faults.{ToErr, NeverFall, NoneRose, OnlyRose, Rose, of_err};
 ghost use Rattle.pcap_records.specs.Texts.{hex_text};
 ghost use Rattle.switch_words.specs.Reading.{job_words};
@@ -39,7 +40,7 @@ use Part::{Magic, Number, Text};
 
 // Gives all of the bytes to standard error, in as many calls as it takes.
 fn give_bytes<F: Files>(files: &mut F, bytes: &[u8]) -> Result<(), Failed>
-    ensures told { Gives result bytes.now (F.told files.old) (F.told files.new) }
+    ensures seen { (c : Contents) → Gives result bytes.now (F.seen c files.old) (F.seen c files.new) }
     ensures cause { OnErr result (Rose (F.faults files.old ToErr) (F.faults files.new ToErr)) }
     ensures no_fault { OnOk result (NoneRose (F.faults files.old) (F.faults files.new)) }
     ensures no_others { OnlyRose of_err (F.faults files.old) (F.faults files.new) }
@@ -62,7 +63,7 @@ fn hex_text(number: u32) -> [u8; 8]
 }
 
 fn give_part<F: Files>(files: &mut F, part: &Part) -> Result<(), Failed>
-    ensures told { Gives result (part_text part.now) (F.told files.old) (F.told files.new) }
+    ensures seen { (c : Contents) → Gives result (part_text part.now) (F.seen c files.old) (F.seen c files.new) }
     ensures cause { OnErr result (Rose (F.faults files.old ToErr) (F.faults files.new ToErr)) }
     ensures no_fault { OnOk result (NoneRose (F.faults files.old) (F.faults files.new)) }
     ensures no_others { OnlyRose of_err (F.faults files.old) (F.faults files.new) }
@@ -77,7 +78,8 @@ fn give_part<F: Files>(files: &mut F, part: &Part) -> Result<(), Failed>
 
 // Gives the parts to standard error, one after the other, up to a call that fails.
 fn give_parts<F: Files>(files: &mut F, parts: &[Part])
-    ensures line { GivesLine (concat (map part_text parts.now)) (F.told files.old) (F.told files.new) (F.faults files.old ToErr) (F.faults files.new ToErr) }
+    ensures line { (c : Contents) → GivesLine (concat (map part_text parts.now))
+        (F.seen c files.old) (F.seen c files.new) (F.faults files.old ToErr) (F.faults files.new ToErr) }
     ensures no_others { OnlyRose of_err (F.faults files.old) (F.faults files.new) }
     ensures never_fall { NeverFall (F.faults files.old) (F.faults files.new) }
 {
@@ -90,7 +92,8 @@ fn give_parts<F: Files>(files: &mut F, parts: &[Part])
 
 // Prints the line for a text that is no table.
 fn print_table<F: Files>(files: &mut F, fault: TableFault)
-    ensures line { GivesLine (table_line fault) (F.told files.old) (F.told files.new) (F.faults files.old ToErr) (F.faults files.new ToErr) }
+    ensures line { (c : Contents) → GivesLine (table_line fault) (F.seen c files.old) (F.seen c files.new)
+        (F.faults files.old ToErr) (F.faults files.new ToErr) }
     ensures no_others { OnlyRose of_err (F.faults files.old) (F.faults files.new) }
     ensures never_fall { NeverFall (F.faults files.old) (F.faults files.new) }
 {
@@ -126,7 +129,8 @@ fn print_table<F: Files>(files: &mut F, fault: TableFault)
 
 // Prints the line for the file of a port that is no capture.
 fn print_capture<F: Files>(files: &mut F, port: u32, fault: PcapFault)
-    ensures line { GivesLine (capture_line port fault) (F.told files.old) (F.told files.new) (F.faults files.old ToErr) (F.faults files.new ToErr) }
+    ensures line { (c : Contents) → GivesLine (capture_line port fault) (F.seen c files.old) (F.seen c files.new)
+        (F.faults files.old ToErr) (F.faults files.new ToErr) }
     ensures no_others { OnlyRose of_err (F.faults files.old) (F.faults files.new) }
     ensures never_fall { NeverFall (F.faults files.old) (F.faults files.new) }
 {
@@ -169,7 +173,8 @@ fn print_capture<F: Files>(files: &mut F, port: u32, fault: PcapFault)
 }
 
 fn print_refusal<F: Files>(files: &mut F, fault: PlanFault)
-    ensures line { GivesLine (refusal_line fault) (F.told files.old) (F.told files.new) (F.faults files.old ToErr) (F.faults files.new ToErr) }
+    ensures line { (c : Contents) → GivesLine (refusal_line fault) (F.seen c files.old) (F.seen c files.new)
+        (F.faults files.old ToErr) (F.faults files.new ToErr) }
     ensures no_others { OnlyRose of_err (F.faults files.old) (F.faults files.new) }
     ensures never_fall { NeverFall (F.faults files.old) (F.faults files.new) }
 {
@@ -210,7 +215,8 @@ fn print_refusal<F: Files>(files: &mut F, fault: PlanFault)
 
 /// Gives standard error the usage line. Where a call fails, the rest of the line is left out.
 pub fn print_usage<F: Files>(files: &mut F)
-    ensures line { GivesLine usage_line (F.told files.old) (F.told files.new) (F.faults files.old ToErr) (F.faults files.new ToErr) }
+    ensures line { (c : Contents) → GivesLine usage_line (F.seen c files.old) (F.seen c files.new)
+        (F.faults files.old ToErr) (F.faults files.new ToErr) }
     ensures no_others { OnlyRose of_err (F.faults files.old) (F.faults files.new) }
     ensures never_fall { NeverFall (F.faults files.old) (F.faults files.new) }
 {
@@ -219,7 +225,8 @@ pub fn print_usage<F: Files>(files: &mut F)
 
 /// Gives standard error the line for want of memory. Where a call fails, the rest of the line is left out.
 pub fn print_memory<F: Files>(files: &mut F)
-    ensures line { GivesLine memory_line (F.told files.old) (F.told files.new) (F.faults files.old ToErr) (F.faults files.new ToErr) }
+    ensures line { (c : Contents) → GivesLine memory_line (F.seen c files.old) (F.seen c files.new)
+        (F.faults files.old ToErr) (F.faults files.new ToErr) }
     ensures no_others { OnlyRose of_err (F.faults files.old) (F.faults files.new) }
     ensures never_fall { NeverFall (F.faults files.old) (F.faults files.new) }
 {
@@ -239,8 +246,8 @@ fn name_read(job: &Job, input: InputFile) -> &str
 
 // Prints the line for what the job was writing; only a `run` job writes files.
 fn print_write_fault<F: Files>(files: &mut F, job: &Job, written: Written)
-    ensures line { GivesLine (named_line (codes "write fault: ") (name_written (job_words job.now) written)) (F.told files.old) (F.told files.new)
-        (F.faults files.old ToErr) (F.faults files.new ToErr) }
+    ensures line { (c : Contents) → GivesLine (named_line (codes "write fault: ") (name_written (job_words job.now) written))
+        (F.seen c files.old) (F.seen c files.new) (F.faults files.old ToErr) (F.faults files.new ToErr) }
     ensures no_others { OnlyRose of_err (F.faults files.old) (F.faults files.new) }
     ensures never_fall { NeverFall (F.faults files.old) (F.faults files.new) }
 {
@@ -272,8 +279,8 @@ fn print_write_fault<F: Files>(files: &mut F, job: &Job, written: Written)
 
 // Prints the line for a journal that is not lawful.
 fn print_no<F: Files>(files: &mut F, slot: u32, reason: Reason)
-    ensures line { GivesLine (concat (codes "no: slot " ∷ decimal slot ∷ (reason_parts reason ++ codes "\n" ∷ []))) (F.told files.old) (F.told files.new)
-        (F.faults files.old ToErr) (F.faults files.new ToErr) }
+    ensures line { (c : Contents) → GivesLine (concat (codes "no: slot " ∷ decimal slot ∷ (reason_parts reason ++ codes "\n" ∷ [])))
+        (F.seen c files.old) (F.seen c files.new) (F.faults files.old ToErr) (F.faults files.new ToErr) }
     ensures no_others { OnlyRose of_err (F.faults files.old) (F.faults files.new) }
     ensures never_fall { NeverFall (F.faults files.old) (F.faults files.new) }
 {
@@ -298,7 +305,8 @@ fn print_no<F: Files>(files: &mut F, slot: u32, reason: Reason)
 
 // Prints the line of the end of a check of this file. Yes has none.
 fn print_check<F: Files>(files: &mut F, file: &str, ending: CheckEnding)
-    ensures line { GivesLine (check_line file.now ending) (F.told files.old) (F.told files.new) (F.faults files.old ToErr) (F.faults files.new ToErr) }
+    ensures line { (c : Contents) → GivesLine (check_line file.now ending) (F.seen c files.old) (F.seen c files.new)
+        (F.faults files.old ToErr) (F.faults files.new ToErr) }
     ensures no_fault { check_status ending ≡ 0 → NoneRose (F.faults files.old) (F.faults files.new) }
     ensures no_others { OnlyRose of_err (F.faults files.old) (F.faults files.new) }
     ensures never_fall { NeverFall (F.faults files.old) (F.faults files.new) }
@@ -325,8 +333,8 @@ fn print_check<F: Files>(files: &mut F, file: &str, ending: CheckEnding)
 
 // The same for a job that is a check; no other has such an end.
 fn print_checked<F: Files>(files: &mut F, job: &Job, ending: CheckEnding)
-    ensures line { GivesLine (checked_line (job_words job.now) ending) (F.told files.old) (F.told files.new) (F.faults files.old ToErr)
-        (F.faults files.new ToErr) }
+    ensures line { (c : Contents) → GivesLine (checked_line (job_words job.now) ending)
+        (F.seen c files.old) (F.seen c files.new) (F.faults files.old ToErr) (F.faults files.new ToErr) }
     ensures no_fault { check_status ending ≡ 0 → NoneRose (F.faults files.old) (F.faults files.new) }
     ensures no_others { OnlyRose of_err (F.faults files.old) (F.faults files.new) }
     ensures never_fall { NeverFall (F.faults files.old) (F.faults files.new) }
@@ -339,7 +347,8 @@ fn print_checked<F: Files>(files: &mut F, job: &Job, ending: CheckEnding)
 /// Gives standard error the line of an ending, none where the status is 0. Where a call fails, the rest of the line is
 /// left out.
 pub fn print_line<F: Files>(files: &mut F, job: &Job, ending: Ending)
-    ensures line { GivesLine (line_of (job_words job.now) ending) (F.told files.old) (F.told files.new) (F.faults files.old ToErr) (F.faults files.new ToErr) }
+    ensures line { (c : Contents) → GivesLine (line_of (job_words job.now) ending)
+        (F.seen c files.old) (F.seen c files.new) (F.faults files.old ToErr) (F.faults files.new ToErr) }
     ensures no_fault { status_of ending ≡ 0 → NoneRose (F.faults files.old) (F.faults files.new) }
     ensures no_others { OnlyRose of_err (F.faults files.old) (F.faults files.new) }
     ensures never_fall { NeverFall (F.faults files.old) (F.faults files.new) }

@@ -1,4 +1,5 @@
 ghost use Rattle.std.specs.Prelude.{◌≡◌, ◌≤◌, ◌<◌, Some, length, vec_len, IfErr, IfOk, IfSome, OnOk};
+ghost use Rattle.outside.specs.Contents.{Contents, Stays};
 ghost use Rattle.outside.specs.Faults.{NeverFall, NoneRose, OnlyRose};
 ghost use Rattle.outside.specs.WholeFiles.{Fits};
 ghost use Rattle.switch_words.specs.Limits.{IsGenWithinLimits};
@@ -100,14 +101,15 @@ fn read_input<F: Files>(
 ) -> Result<Vec<u8>, Ending>
     requires room { 0 < length buf.old }
     requires known { IsInput (reads_words reads.now) input }
-    requires earlier { IfSome (F.told files.old) (EarlierFit (reads_words reads.now) input) }
-    ensures told { F.told files.new ≡ F.told files.old }
+    requires earlier { (c : Contents) → IfSome (F.seen c files.old) (EarlierFit (reads_words reads.now) input) }
+    ensures seen { (c : Contents) → Stays (F.seen c files.old) (F.seen c files.new) }
     ensures no_fault { OnOk result (NoneRose (F.faults files.old) (F.faults files.new)) }
     ensures refused { IfErr result (λ ending. OnlyRose (refused_by ending) (F.faults files.old) (F.faults files.new)) }
     ensures never_fall { NeverFall (F.faults files.old) (F.faults files.new) }
-    ensures bytes { IfOk result (λ v. IfSome (F.told files.old) (λ c. c.file (input_name (reads_words reads.now) input) ≡ Some v.items)) }
+    ensures bytes { (c : Contents) → IfOk result (λ v. IfSome (F.seen c files.new)
+        (λ d. d.file (input_name (reads_words reads.now) input) ≡ Some v.items)) }
     ensures fits { IfOk result (λ v. length v.items ≤ most_bytes (reads_words reads.now) input) }
-    ensures stops { IfErr result (StopsReading (reads_words reads.now) (F.told files.old) (F.faults files.old) (F.faults files.new)) }
+    ensures stops { (c : Contents) → IfErr result (StopsReading (reads_words reads.now) (F.seen c files.new) (F.faults files.old) (F.faults files.new)) }
 {
     let (name, most) = (input_name(reads, input), most_bytes(reads, input));
     match read_whole(alloc, files, name, most, buf) {
@@ -127,13 +129,13 @@ fn read_captures<F: Files>(
 ) -> Result<Vec<Vec<u8>>, Ending>
     requires room { 0 < length buf.old }
     requires ports { length reads.now.inputs.now ≤ MAX_PORTS }
-    requires table { IfSome (F.told files.old) (λ c. Fits c (reads_words reads.now).table) }
-    ensures told { F.told files.new ≡ F.told files.old }
+    requires table { (c : Contents) → IfSome (F.seen c files.old) (λ d. Fits d (reads_words reads.now).table) }
+    ensures seen { (c : Contents) → Stays (F.seen c files.old) (F.seen c files.new) }
     ensures no_fault { OnOk result (NoneRose (F.faults files.old) (F.faults files.new)) }
     ensures refused { IfErr result (λ ending. OnlyRose (refused_by ending) (F.faults files.old) (F.faults files.new)) }
     ensures never_fall { NeverFall (F.faults files.old) (F.faults files.new) }
-    ensures read { IfOk result (λ v. CapturesRead reads.now.long (reads_words reads.now).inputs (F.told files.old) (bytes_of_files v)) }
-    ensures stops { IfErr result (StopsReading (reads_words reads.now) (F.told files.old) (F.faults files.old) (F.faults files.new)) }
+    ensures read { (c : Contents) → IfOk result (λ v. CapturesRead reads.now.long (reads_words reads.now).inputs (F.seen c files.new) (bytes_of_files v)) }
+    ensures stops { (c : Contents) → IfErr result (StopsReading (reads_words reads.now) (F.seen c files.new) (F.faults files.old) (F.faults files.new)) }
 {
     let mut captures = Vec::new(alloc);
     for port in 0..reads.inputs.len() as u32 {
@@ -151,12 +153,12 @@ pub fn read_inputs<F: Files>(
     files: &mut F,
 ) -> Result<Inputs, Ending>
     requires { length reads.now.inputs.now ≤ MAX_PORTS }
-    ensures told { F.told files.new ≡ F.told files.old }
+    ensures seen { (c : Contents) → Stays (F.seen c files.old) (F.seen c files.new) }
     ensures no_fault { OnOk result (NoneRose (F.faults files.old) (F.faults files.new)) }
     ensures refused { IfErr result (λ ending. OnlyRose (refused_by ending) (F.faults files.old) (F.faults files.new)) }
     ensures never_fall { NeverFall (F.faults files.old) (F.faults files.new) }
-    ensures read { IfOk result (λ i. AreFilesRead (reads_words reads.now) (F.told files.old) i.table.items (bytes_of_files i.captures)) }
-    ensures stops { IfErr result (StopsReading (reads_words reads.now) (F.told files.old) (F.faults files.old) (F.faults files.new)) }
+    ensures read { (c : Contents) → IfOk result (λ i. AreFilesRead (reads_words reads.now) (F.seen c files.new) i.table.items (bytes_of_files i.captures)) }
+    ensures stops { (c : Contents) → IfErr result (StopsReading (reads_words reads.now) (F.seen c files.new) (F.faults files.old) (F.faults files.new)) }
 {
     let mut piece = read_buffer(alloc)?;
     let buf = piece.as_mut_slice();

@@ -1,6 +1,6 @@
 ghost use Rattle.std.specs.Prelude.{◌≡◌, ◌≤◌, ◌<◌, ◌+◌, length, map, slice_index_or, string_bytes, take, IfErr, IfOk, OnErr, OnOk};
 ghost use Rattle.std.specs.Option.{option_map};
-ghost use Rattle.outside.specs.Contents.{append_out};
+ghost use Rattle.outside.specs.Contents.{Contents, append_out};
 ghost use Rattle.outside.specs.Faults.{NeverFall, NoneRose, OnlyRose, of_writes};
 ghost use Rattle.outside.specs.WholeFiles.{Puts, StopsAt};
 ghost use Rattle.switch_plan.specs.ReadingSteps.{bytes_of_files};
@@ -105,7 +105,7 @@ pub fn run_files(
 
 // Begins the file and gives it all its bytes.
 fn put_file<F: Files>(files: &mut F, file: &OutputFile) -> Result<(), Failed>
-    ensures told { Puts result (shown file.now) (F.faults files.old) (F.faults files.new) (F.told files.old) (F.told files.new) }
+    ensures seen { (c : Contents) → Puts result (shown file.now) (F.faults files.old) (F.faults files.new) (F.seen c files.old) (F.seen c files.new) }
     ensures no_fault { OnOk result (NoneRose (F.faults files.old) (F.faults files.new)) }
     ensures no_others { OnlyRose of_writes (F.faults files.old) (F.faults files.new) }
     ensures never_fall { NeverFall (F.faults files.old) (F.faults files.new) }
@@ -116,10 +116,10 @@ fn put_file<F: Files>(files: &mut F, file: &OutputFile) -> Result<(), Failed>
 // Begins and writes each file, in order; else the place of the first of which a call failed.
 fn put_all<F: Files>(files: &mut F, output_files: &[OutputFile]) -> Result<(), u32>
     requires { length output_files.now ≤ MAX_PORTS + 3 }
-    ensures ok { OnOk result (F.told files.new ≡ option_map (put_files (map shown output_files.now)) (F.told files.old)) }
+    ensures ok { (c : Contents) → OnOk result (F.seen c files.new ≡ option_map (put_files (map shown output_files.now)) (F.seen c files.old)) }
     ensures place { IfErr result (λ place. place < length output_files.now) }
-    ensures err { IfErr result (λ place. StopsAt (slice_index_or (map shown output_files.now) place nameless) (F.faults files.old) (F.faults files.new)
-        (option_map (put_files (take place (map shown output_files.now))) (F.told files.old)) (F.told files.new)) }
+    ensures err { (c : Contents) → IfErr result (λ place. StopsAt (slice_index_or (map shown output_files.now) place nameless) (F.faults files.old)
+        (F.faults files.new) (option_map (put_files (take place (map shown output_files.now))) (F.seen c files.old)) (F.seen c files.new)) }
     ensures no_fault { OnOk result (NoneRose (F.faults files.old) (F.faults files.new)) }
     ensures no_others { OnlyRose of_writes (F.faults files.old) (F.faults files.new) }
     ensures never_fall { NeverFall (F.faults files.old) (F.faults files.new) }
@@ -137,8 +137,9 @@ fn put_packets<F: Files, P: Pieces>(
     files: &mut F,
     packets: &mut Option<PiecedFile<P>>,
 ) -> Result<(), Failed>
-    ensures ok { OnOk result (F.told files.new ≡ option_map (put_files (pieced P.left packets.old)) (F.told files.old)) }
-    ensures err { OnErr result (StopsAtPlace (pieced P.left packets.old) 0 (F.told files.old) (F.faults files.old) (F.faults files.new) (F.told files.new)) }
+    ensures ok { (c : Contents) → OnOk result (F.seen c files.new ≡ option_map (put_files (pieced P.left packets.old)) (F.seen c files.old)) }
+    ensures err { (c : Contents) → OnErr result (StopsAtPlace (pieced P.left packets.old) 0 (F.seen c files.old) (F.faults files.old) (F.faults files.new)
+        (F.seen c files.new)) }
     ensures no_fault { OnOk result (NoneRose (F.faults files.old) (F.faults files.new)) }
     ensures no_others { OnlyRose of_writes (F.faults files.old) (F.faults files.new) }
     ensures never_fall { NeverFall (F.faults files.old) (F.faults files.new) }
@@ -170,10 +171,10 @@ fn written_at(place: u32, outputs: usize) -> Written
 /// written when a call failed. It takes no memory.
 pub fn put_texts<F: Files, P: Pieces>(files: &mut F, texts: &mut JobTexts<P>) -> Result<(), Written>
     requires { length texts.old.files.items ≤ MAX_PORTS + 3 }
-    ensures ok { OnOk result (F.told files.new
-        ≡ option_map (λ c. append_out (string_bytes texts.old.summary) (put_files (all_shown P.left texts.old) c)) (F.told files.old)) }
-    ensures err { IfErr result (λ written. StopsPutting texts.old.outputs (length texts.old.files.items) (all_shown P.left texts.old)
-        (string_bytes texts.old.summary) written (F.told files.old) (F.faults files.old) (F.faults files.new) (F.told files.new)) }
+    ensures ok { (c : Contents) → OnOk result (F.seen c files.new
+        ≡ option_map (λ d. append_out (string_bytes texts.old.summary) (put_files (all_shown P.left texts.old) d)) (F.seen c files.old)) }
+    ensures err { (c : Contents) → IfErr result (λ written. StopsPutting texts.old.outputs (length texts.old.files.items) (all_shown P.left texts.old)
+        (string_bytes texts.old.summary) written (F.seen c files.old) (F.faults files.old) (F.faults files.new) (F.seen c files.new)) }
     ensures no_fault { OnOk result (NoneRose (F.faults files.old) (F.faults files.new)) }
     ensures no_others { OnlyRose of_writes (F.faults files.old) (F.faults files.new) }
     ensures never_fall { NeverFall (F.faults files.old) (F.faults files.new) }

@@ -1,4 +1,5 @@
 ghost use Rattle.std.specs.Prelude.{◌≡◌, ◌≤◌, ◌↔◌, ◌++◌, ℕ, List, [], true, length, take, IfSome, OnOk};
+ghost use Rattle.outside.specs.Contents.{Contents};
 ghost use Rattle.outside.specs.Faults.{NeverFall, NoneRose, OnlyRose, of_writes};
 ghost use Rattle.outside.specs.WholeFiles.{Appends, Puts};
 
@@ -37,9 +38,9 @@ fn append_pieces<F: Files, P: Pieces>(
     buf: &mut [u8],
 ) -> Result<(), Failed>
     requires room { 256 ≤ length buf.old }
-    requires begun { IfSome (F.told files.old) (λ c. c.begun name.now ≡ true) }
-    ensures told { Appends result (record { name = name.now; bytes = P.left pieces.old }) (F.faults files.old) (F.faults files.new) (F.told files.old)
-        (F.told files.new) }
+    requires begun { (c : Contents) → IfSome (F.seen c files.old) (λ d. d.begun name.now ≡ true) }
+    ensures seen { (c : Contents) → Appends result (record { name = name.now; bytes = P.left pieces.old }) (F.faults files.old) (F.faults files.new)
+        (F.seen c files.old) (F.seen c files.new) }
     ensures no_fault { OnOk result (NoneRose (F.faults files.old) (F.faults files.new)) }
     ensures no_others { OnlyRose of_writes (F.faults files.old) (F.faults files.new) }
     ensures never_fall { NeverFall (F.faults files.old) (F.faults files.new) }
@@ -65,8 +66,8 @@ pub(crate) fn put_pieces<F: Files, P: Pieces>(
     buf: &mut [u8],
 ) -> Result<(), Failed>
     requires { 256 ≤ length buf.old }
-    ensures told { Puts result (record { name = name.now; bytes = P.left pieces.old }) (F.faults files.old) (F.faults files.new) (F.told files.old)
-        (F.told files.new) }
+    ensures seen { (c : Contents) → Puts result (record { name = name.now; bytes = P.left pieces.old }) (F.faults files.old) (F.faults files.new)
+        (F.seen c files.old) (F.seen c files.new) }
     ensures no_fault { OnOk result (NoneRose (F.faults files.old) (F.faults files.new)) }
     ensures no_others { OnlyRose of_writes (F.faults files.old) (F.faults files.new) }
     ensures never_fall { NeverFall (F.faults files.old) (F.faults files.new) }

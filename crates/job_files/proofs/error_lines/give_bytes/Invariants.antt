@@ -1,15 +1,15 @@
 use Rattle.std.proofs.Common.{◌≡◌, ◌≤◌, length, ◌-◌, take}
 use Rattle.std.specs.Prelude.{option_map}
-use Rattle.outside.specs.Contents.{append_err}
+use Rattle.outside.specs.Contents.{Contents, append_err}
 use Rattle.outside.specs.Faults.{NeverFall, NoneRose}
 use Rattle.job_files.proofs.error_lines.give_bytes.Given as goal
 
 abbrev pub invariant-loop-at : goal.invariant-loop-at
 invariant-loop-at g l =
-    let contents = g.F.Files.told in
+    let see = g.F.Files.seen in
     let counts = g.F.Files.faults in
     record {
-      told : contents l.files ≡ option_map (append_err (take l.at l.bytes)) (contents l.fn.files);
+      seen : (c : Contents) → see c l.files ≡ option_map (append_err (take l.at l.bytes)) (see c l.fn.files);
       no_fault : NoneRose (counts l.fn.files) (counts l.files);
       never_fall : NeverFall (counts l.fn.files) (counts l.files);
       within : l.at ≤ length l.bytes;

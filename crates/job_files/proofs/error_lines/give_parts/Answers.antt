@@ -5,16 +5,16 @@ use Rattle.job_files.proofs.Printing.{given_more, given_to}
 use Rattle.job_files.proofs.error_lines.give_parts.Goals as goal
 
 pub returns-then-is_err-clause-line : goal.returns-then-is_err-clause-line
-returns-then-is_err-clause-line g c =
+returns-then-is_err-clause-line g c d =
     given_to part_text c.args.parts.now c.loop-part.part-index _ c.give_part.result _ _ _ _ _ _ c.loop-part-test.true
     (sym c.is_err.ensures.value ∙ c.if-is_err.true)
-    c.loop-part.invariant.told c.give_part.ensures.told (c.loop-part.invariant.never_fall ToErr) c.give_part.ensures.cause
+    (c.loop-part.invariant.seen d) (c.give_part.ensures.seen d) (c.loop-part.invariant.never_fall ToErr) c.give_part.ensures.cause
 
 pub loop-part-preserved : goal.loop-part-preserved
 loop-part-preserved g c = record {
-  told = given_more part_text c.args.parts.now c.loop-part.part-index _ c.give_part.result _ _ _ c.loop-part-test.true
+  seen = λ d. given_more part_text c.args.parts.now c.loop-part.part-index _ c.give_part.result _ _ _ c.loop-part-test.true
       (sym c.is_err.ensures.value ∙ c.if-is_err.false)
-      c.loop-part.invariant.told c.give_part.ensures.told;
+      (c.loop-part.invariant.seen d) (c.give_part.ensures.seen d);
   no_others = λ p other. c.give_part.ensures.no_others p other ∙ c.loop-part.invariant.no_others p other;
   never_fall = λ p. omega (arith, c.loop-part.invariant.never_fall p, c.give_part.ensures.never_fall p);
 }

@@ -1,5 +1,6 @@
-use Rattle.std.proofs.Common.{◌≡◌, ◌<◌, length, take}
+use Rattle.std.proofs.Common.{◌<◌, length, take}
 use Rattle.std.specs.Prelude.{IfSome}
+use Rattle.outside.specs.Contents.{Contents, Stays}
 use Rattle.outside.specs.Faults.{NeverFall, NoneRose}
 use Rattle.job_files.specs.Inputs.{CapturesRead, EarlierFit}
 use Rattle.job_files.specs.FileSteps.{reads_words}
@@ -9,13 +10,13 @@ use Rattle.job_files.proofs.inputs.read_captures.Given as goal
 
 abbrev pub invariant-loop-port : goal.invariant-loop-port
 invariant-loop-port g l =
-    let contents = g.F.Files.told in
+    let see = g.F.Files.seen in
     let counts = g.F.Files.faults in
     record {
-      told : contents l.files ≡ contents l.fn.files;
+      seen : (c : Contents) → Stays (see c l.fn.files) (see c l.files);
       no_fault : NoneRose (counts l.fn.files) (counts l.files);
       never_fall : NeverFall (counts l.fn.files) (counts l.files);
       room : 0 < length l.buf;
-      earlier : IfSome (contents l.fn.files) (EarlierFit (reads_words l.reads) (Capture l.port));
-      read : CapturesRead l.reads.long (take l.port (reads_words l.reads).inputs) (contents l.fn.files) (bytes_of_files l.captures);
+      earlier : (c : Contents) → IfSome (see c l.files) (EarlierFit (reads_words l.reads) (Capture l.port));
+      read : (c : Contents) → CapturesRead l.reads.long (take l.port (reads_words l.reads).inputs) (see c l.files) (bytes_of_files l.captures);
     }

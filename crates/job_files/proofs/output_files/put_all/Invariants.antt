@@ -1,15 +1,16 @@
 use Rattle.std.proofs.Common.{◌≡◌, map, take}
 use Rattle.std.specs.Prelude.{option_map}
+use Rattle.outside.specs.Contents.{Contents}
 use Rattle.outside.specs.Faults.{NeverFall, NoneRose}
 use Rattle.job_files.specs.OutputFiles.{put_files, shown}
 use Rattle.job_files.proofs.output_files.put_all.Given as goal
 
 abbrev pub invariant-loop-place : goal.invariant-loop-place
 invariant-loop-place g l =
-    let contents = g.F.Files.told in
+    let see = g.F.Files.seen in
     let counts = g.F.Files.faults in
     record {
-      told : contents l.files ≡ option_map (put_files (take l.place (map shown l.output_files))) (contents l.fn.files);
+      seen : (c : Contents) → see c l.files ≡ option_map (put_files (take l.place (map shown l.output_files))) (see c l.fn.files);
       no_fault : NoneRose (counts l.fn.files) (counts l.files);
       never_fall : NeverFall (counts l.fn.files) (counts l.files);
     }

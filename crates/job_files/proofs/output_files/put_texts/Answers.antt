@@ -8,27 +8,27 @@ use Rattle.job_files.proofs.Putting.{stops_after, stops_at_place, went_wrong}
 use Rattle.job_files.proofs.output_files.put_texts.Goals as goal
 
 pub returns-in-Err-clause-err : goal.returns-in-Err-clause-err
-returns-in-Err-clause-err g c =
-    let told = g.F.Files.told in
+returns-in-Err-clause-err g c d =
+    let see = g.F.Files.seen d in
     let counts = g.F.Files.faults in
     let texts = c.args.texts.now in
     let items = texts.files.items in
     let same = c.as_slice.ensures.value in
     let first = map shown items in
     let more = pieced g.P.Pieces.left texts.packets in
-    let stops = rw same at c.in-Err.ensures.err in
+    let stops = rw same at (c.in-Err.ensures.err d) in
     let place = c.in-Err.place in
     let within : place < length first = omega (arith, c.in-Err.ensures.place, ap length same, length-map items shown) in
     let old = c.args.files.now in
     let new = c.put_all.new.files in
     let summary = string_bytes texts.summary in
     rw c.written_at.ensures
-    (subst (λ (n : ℕ). StopsPutting texts.outputs n (first ++ more) summary (written_at place texts.outputs) (told old) (counts old) (counts new) (told new))
-    (length-map items shown) (stops_at_place texts.outputs first more summary place (told old) (told new) (counts old) (counts new) within stops))
+    (subst (λ (n : ℕ). StopsPutting texts.outputs n (first ++ more) summary (written_at place texts.outputs) (see old) (counts old) (counts new)
+    (see new)) (length-map items shown) (stops_at_place texts.outputs first more summary place (see old) (see new) (counts old) (counts new) within stops))
 
 pub returns-then-is_err-clause-err : goal.returns-then-is_err-clause-err
-returns-then-is_err-clause-err g c =
-    let told = g.F.Files.told in
+returns-then-is_err-clause-err g c d =
+    let see = g.F.Files.seen d in
     let counts = g.F.Files.faults in
     let texts = c.args.texts.now in
     let items = texts.files.items in
@@ -37,8 +37,8 @@ returns-then-is_err-clause-err g c =
     let old = c.args.files.now in
     let mid = c.put_all.new.files in
     let new = c.put_packets.new.files in
-    let stops = went_wrong c.put_packets.result (sym c.is_err.ensures.value ∙ c.if-is_err.true) c.put_packets.ensures.err in
-    let put : told mid ≡ option_map (put_files first) (told old) =
-    c.in_default.ensures.ok ∙ ap (λ (files : List OutputFile). option_map (put_files (map shown files)) (told old)) c.as_slice.ensures.value in
-    subst (λ (n : ℕ). StopsAtPlace (first ++ more) n (told old) (counts old) (counts new) (told new)) (length-map items shown)
-    (stops_after first more (counts old) (counts mid) (counts new) (told old) (told mid) (told new) c.in_default.ensures.never_fall put stops)
+    let stops = went_wrong c.put_packets.result (sym c.is_err.ensures.value ∙ c.if-is_err.true) (c.put_packets.ensures.err d) in
+    let put : see mid ≡ option_map (put_files first) (see old) =
+    c.in_default.ensures.ok d ∙ ap (λ (files : List OutputFile). option_map (put_files (map shown files)) (see old)) c.as_slice.ensures.value in
+    subst (λ (n : ℕ). StopsAtPlace (first ++ more) n (see old) (counts old) (counts new) (see new)) (length-map items shown)
+    (stops_after first more (counts old) (counts mid) (counts new) (see old) (see mid) (see new) c.in_default.ensures.never_fall put stops)

@@ -15,7 +15,7 @@ loop-at-init g c =
     let next = c.put-end in
     record {
       done = [];
-      told = sym (appended-none c.args.name.now (g.F.Files.told c.args.files.now));
+      seen = λ d. sym (appended-none c.args.name.now (g.F.Files.seen d c.args.files.now));
       text = rest-first next.new.buf (left c.args.pieces.now) (left next.new.self) next.result next.ensures.text;
       last = λ over. nothing-left next.new.buf (left c.args.pieces.now) (left next.new.self) next.result next.ensures.text (next.ensures.end.0)
           (omega (arith, over));
@@ -30,20 +30,20 @@ loop-at-init g c =
 pub loop-at-preserved : goal.loop-at-preserved
 loop-at-preserved g c =
     let was = c.loop-at.invariant in
-    let told = g.F.Files.told in
+    let see = g.F.Files.seen in
     let left = g.P.Pieces.left in
     let k = c.in_ok-at.field-0 in
     let piece = rest c.loop-at.buf c.loop-at.at c.loop-at.end in
     let fits = rest-fits c.loop-at.buf c.loop-at.at k c.loop-at.end was.before c.in_ok-at.ensures.room in
     record {
       done = was.done ++ take k piece;
-      told = appended-more c.args.name.now was.done (take k piece) (told c.args.files.now) (told c.loop-at.files) (told c.write.new.self)
-          c.in_ok-at.ensures.told was.told;
+      seen = λ d. appended-more c.args.name.now was.done (take k piece) (see d c.args.files.now) (see d c.loop-at.files) (see d c.write.new.self)
+          (c.in_ok-at.ensures.seen d) (was.seen d);
       text = written-more (left c.args.pieces.now) was.done c.loop-at.buf (left c.loop-at.pieces) c.loop-at.at k c.loop-at.end fits was.text;
       last = λ over. absurd (c.if-at-end.false (omega (arith, over, fits)));
       no_fault = λ p. c.in_ok-at.ensures.no_fault p ∙ was.no_fault p;
       never_fall = λ p. omega (arith, was.never_fall p, c.in_ok-at.ensures.never_fall p);
-      begun = rw c.in_ok-at.ensures.told (is_begun-append_file c.args.name.now _ c.args.name.now (told c.loop-at.files) was.begun);
+      begun = λ d. rw (c.in_ok-at.ensures.seen d) (is_begun-append_file c.args.name.now _ c.args.name.now (see d c.loop-at.files) (was.begun d));
       before = fits;
       within = was.within;
       long = was.long;
@@ -52,7 +52,7 @@ loop-at-preserved g c =
 pub loop-at-preserved-then-at-end : goal.loop-at-preserved-then-at-end
 loop-at-preserved-then-at-end g c =
     let was = c.loop-at.invariant in
-    let told = g.F.Files.told in
+    let see = g.F.Files.seen in
     let left = g.P.Pieces.left in
     let k = c.in_ok-at.field-0 in
     let piece = rest c.loop-at.buf c.loop-at.at c.loop-at.end in
@@ -64,38 +64,38 @@ loop-at-preserved-then-at-end g c =
     (written-more text was.done c.loop-at.buf (left c.loop-at.pieces) c.loop-at.at k c.loop-at.end fits was.text) in
     record {
       done = was.done ++ take k piece;
-      told = appended-more c.args.name.now was.done (take k piece) (told c.args.files.now) (told c.loop-at.files) (told c.write.new.self)
-          c.in_ok-at.ensures.told was.told;
+      seen = λ d. appended-more c.args.name.now was.done (take k piece) (see d c.args.files.now) (see d c.loop-at.files) (see d c.write.new.self)
+          (c.in_ok-at.ensures.seen d) (was.seen d);
       text = written-next text (was.done ++ take k piece) (left c.loop-at.pieces) next.new.buf (left next.new.self) next.result all next.ensures.text;
       last = λ over. nothing-left next.new.buf (left c.loop-at.pieces) (left next.new.self) next.result next.ensures.text next.ensures.end.0
           (omega (arith, over));
       no_fault = λ p. c.in_ok-at.ensures.no_fault p ∙ was.no_fault p;
       never_fall = λ p. omega (arith, was.never_fall p, c.in_ok-at.ensures.never_fall p);
-      begun = rw c.in_ok-at.ensures.told (is_begun-append_file c.args.name.now _ c.args.name.now (told c.loop-at.files) was.begun);
+      begun = λ d. rw (c.in_ok-at.ensures.seen d) (is_begun-append_file c.args.name.now _ c.args.name.now (see d c.loop-at.files) (was.begun d));
       before = omega arith;
       within = omega (arith, next.ensures.room, next.auto.buf);
       long = next.auto.buf ∙ was.long;
     }
 
-pub returns-in_err-at-clause-told : goal.returns-in_err-at-clause-told
-returns-in_err-at-clause-told g c =
+pub returns-in_err-at-clause-seen : goal.returns-in_err-at-clause-seen
+returns-in_err-at-clause-seen g c d =
     let was = c.loop-at.invariant in
-    let told = g.F.Files.told c.args.files.now in
+    let was_seen = g.F.Files.seen d c.args.files.now in
     let failed = err_from_is_err_and c.from_residual.result c.from_residual.ensures.1 in
     rw failed.1 (
       NeverFall-Rose (g.F.Files.faults c.args.files.now) (g.F.Files.faults c.loop-at.files) (g.F.Files.faults c.write.new.self)
           (WriteOf c.args.name.now) was.never_fall c.in_err-at.ensures.cause,
       (
         length was.done,
-        c.in_err-at.ensures.told ∙ was.told ∙ ap (λ xs. option_map (append_file c.args.name.now xs) told) (first-part was.done _ _ was.text),
+        c.in_err-at.ensures.seen d ∙ was.seen d ∙ ap (λ xs. option_map (append_file c.args.name.now xs) was_seen) (first-part was.done _ _ was.text),
       ),
     )
 
-pub returns-clause-told : goal.returns-clause-told
-returns-clause-told g c =
+pub returns-clause-seen : goal.returns-clause-seen
+returns-clause-seen g c d =
     let was = c.loop-at.invariant in
     let left = g.P.Pieces.left in
     let text = left c.args.pieces.now in
     let all = written-all text was.done c.loop-at.buf (left c.loop-at.pieces) c.loop-at.at c.loop-at.end (omega arith) was.text in
-    was.told ∙ ap (λ xs. option_map (append_file c.args.name.now xs) (g.F.Files.told c.args.files.now))
+    was.seen d ∙ ap (λ xs. option_map (append_file c.args.name.now xs) (g.F.Files.seen d c.args.files.now))
     (written-end text was.done (left c.loop-at.pieces) all (was.last (omega arith)))

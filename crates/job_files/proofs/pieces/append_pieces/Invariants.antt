@@ -1,23 +1,23 @@
 use Rattle.std.proofs.Common.{◌≡◌, ◌≤◌, ◌+◌, ◌-◌, ◌++◌, List, ℕ, [], length, true}
 use Rattle.std.specs.Prelude.{option_map, IfSome}
-use Rattle.outside.specs.Contents.{append_file}
+use Rattle.outside.specs.Contents.{Contents, append_file}
 use Rattle.outside.specs.Faults.{NeverFall, NoneRose}
 use Rattle.job_files.proofs.Piecewise.{rest}
 use Rattle.job_files.proofs.pieces.append_pieces.Given as goal
 
 abbrev pub invariant-loop-at : goal.invariant-loop-at
 invariant-loop-at g l =
-    let contents = g.F.Files.told in
+    let see = g.F.Files.seen in
     let counts = g.F.Files.faults in
     let left = g.P.Pieces.left in
     record {
       done : List ℕ;
-      told : contents l.files ≡ option_map (append_file l.name done) (contents l.fn.files);
+      seen : (c : Contents) → see c l.files ≡ option_map (append_file l.name done) (see c l.fn.files);
       text : left l.fn.pieces ≡ done ++ (rest l.buf l.at l.end ++ left l.pieces);
       last : l.end ≤ l.at → left l.pieces ≡ [];
       no_fault : NoneRose (counts l.fn.files) (counts l.files);
       never_fall : NeverFall (counts l.fn.files) (counts l.files);
-      begun : IfSome (contents l.files) (λ c. c.begun l.name ≡ true);
+      begun : (c : Contents) → IfSome (see c l.files) (λ d. d.begun l.name ≡ true);
       before : l.at ≤ l.end;
       within : l.end ≤ length l.buf;
       long : length l.buf ≡ length l.fn.buf;
