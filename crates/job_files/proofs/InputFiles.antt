@@ -63,9 +63,9 @@ counted true n fits = omega (arith, fits)
 counted false n fits = omega (arith, fits)
 
 -- what is read of 1 to 64 ports is within the limits of a plan
-pub read_of_size : (r : ReadWords) (told : Option Contents) (table : List ℕ) (captures : List (List ℕ)) → AreFilesRead r told table captures
-    → IsUpTo MAX_PORTS (length r.inputs) → AreOfSize table captures
-read_of_size r told table captures read ports = record {
+pub read_of_size : (r : ReadWords) (seen : Contents → Option Contents) (table : List ℕ) (captures : List (List ℕ))
+    → ((c : Contents) → AreFilesRead r (seen c) table captures) → IsUpTo MAX_PORTS (length r.inputs) → AreOfSize table captures
+read_of_size r seen table captures reads ports = let read = reads (record { file = λ name. None; begun = λ name. false; out = []; err = [] }) in record {
   ports = record { some = omega (arith, read.captures_read.count, ports.some); most = omega (arith, read.captures_read.count, ports.most) };
   table_fits = read.table_fits;
   captures_fit = λ k d k_in. counted r.long _ (read.captures_read.fit k d k_in);
