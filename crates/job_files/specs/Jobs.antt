@@ -1,5 +1,5 @@
 -- What the words of a job say, whichever its command is.
-use Rattle.std.specs.Prelude.{ℕ, ◌<◌, Bool, true, false, List, [], length, slice_index_or, Option, Some, None}
+use Rattle.std.specs.Prelude.{◌≡◌, ℕ, ◌<◌, Bool, true, false, List, [], length, slice_index_or, Option, Some, None, All}
 use Rattle.rotating_pick.specs.declared.limits.TheConstants.{MAX_FILE_BYTES}
 use Rattle.switch_words.specs.declared.job.Speed.TheVariants.{Untimed}
 use Rattle.switch_words.specs.declared.job.Settings.{Settings}
@@ -78,6 +78,10 @@ capture_bytes false = MAX_FILE_BYTES
 abbrev pub most_bytes : ReadWords → InputFile → ℕ
 most_bytes r Table = MAX_FILE_BYTES
 most_bytes r (Capture port) = capture_bytes r.long
+
+-- the table and each capture have names that are named so
+abbrev pub AreNamed : (List ℕ → Bool) → ReadWords → Type 0
+AreNamed named r = (named r.table ≡ true) × All (λ name. named name ≡ true) r.inputs
 
 -- there is a port of this number
 abbrev pub IsInput : ReadWords → InputFile → Type 0

@@ -1,6 +1,6 @@
-ghost use Rattle.std.specs.Prelude.{◌≡◌, [], ◌∷◌, ◌++◌, codes, decimal, map, OnErr, OnOk};
+ghost use Rattle.std.specs.Prelude.{◌≡◌, ℕ, List, Bool, [], ◌∷◌, ◌++◌, codes, decimal, map, OnErr, OnOk};
 ghost use Rattle.std.specs.List.{concat};
-ghost use Rattle.outside.specs.Contents.{Contents};
+ghost use Rattle.outside.specs.Contents.{AreAlike, Contents};
 ghost use Rattle.outside.specs.Faults.{ToErr, NeverFall, NoneRose, OnlyRose, Rose, of_err};
 ghost use Rattle.pcap_records.specs.Texts.{hex_text};
 ghost use Rattle.switch_words.specs.Reading.{job_words};
@@ -41,6 +41,8 @@ use Part::{Magic, Number, Text};
 // Gives all of the bytes to standard error, in as many calls as it takes.
 fn give_bytes<F: Files>(files: &mut F, bytes: &[u8]) -> Result<(), Failed>
     ensures seen { (c : Contents) → Gives result bytes.now (F.seen c files.old) (F.seen c files.new) }
+    ensures own { (named : List ℕ → Bool) (c d : Contents) → AreAlike named (F.seen c files.old) (F.seen d files.old)
+        → AreAlike named (F.seen c files.new) (F.seen d files.new) }
     ensures cause { OnErr result (Rose (F.faults files.old ToErr) (F.faults files.new ToErr)) }
     ensures no_fault { OnOk result (NoneRose (F.faults files.old) (F.faults files.new)) }
     ensures no_others { OnlyRose of_err (F.faults files.old) (F.faults files.new) }
@@ -64,6 +66,8 @@ fn hex_text(number: u32) -> [u8; 8]
 
 fn give_part<F: Files>(files: &mut F, part: &Part) -> Result<(), Failed>
     ensures seen { (c : Contents) → Gives result (part_text part.now) (F.seen c files.old) (F.seen c files.new) }
+    ensures own { (named : List ℕ → Bool) (c d : Contents) → AreAlike named (F.seen c files.old) (F.seen d files.old)
+        → AreAlike named (F.seen c files.new) (F.seen d files.new) }
     ensures cause { OnErr result (Rose (F.faults files.old ToErr) (F.faults files.new ToErr)) }
     ensures no_fault { OnOk result (NoneRose (F.faults files.old) (F.faults files.new)) }
     ensures no_others { OnlyRose of_err (F.faults files.old) (F.faults files.new) }
@@ -80,6 +84,8 @@ fn give_part<F: Files>(files: &mut F, part: &Part) -> Result<(), Failed>
 fn give_parts<F: Files>(files: &mut F, parts: &[Part])
     ensures line { (c : Contents) → GivesLine (concat (map part_text parts.now))
         (F.seen c files.old) (F.seen c files.new) (F.faults files.old ToErr) (F.faults files.new ToErr) }
+    ensures own { (named : List ℕ → Bool) (c d : Contents) → AreAlike named (F.seen c files.old) (F.seen d files.old)
+        → AreAlike named (F.seen c files.new) (F.seen d files.new) }
     ensures no_others { OnlyRose of_err (F.faults files.old) (F.faults files.new) }
     ensures never_fall { NeverFall (F.faults files.old) (F.faults files.new) }
 {
@@ -94,6 +100,8 @@ fn give_parts<F: Files>(files: &mut F, parts: &[Part])
 fn print_table<F: Files>(files: &mut F, fault: TableFault)
     ensures line { (c : Contents) → GivesLine (table_line fault) (F.seen c files.old) (F.seen c files.new)
         (F.faults files.old ToErr) (F.faults files.new ToErr) }
+    ensures own { (named : List ℕ → Bool) (c d : Contents) → AreAlike named (F.seen c files.old) (F.seen d files.old)
+        → AreAlike named (F.seen c files.new) (F.seen d files.new) }
     ensures no_others { OnlyRose of_err (F.faults files.old) (F.faults files.new) }
     ensures never_fall { NeverFall (F.faults files.old) (F.faults files.new) }
 {
@@ -131,6 +139,8 @@ fn print_table<F: Files>(files: &mut F, fault: TableFault)
 fn print_capture<F: Files>(files: &mut F, port: u32, fault: PcapFault)
     ensures line { (c : Contents) → GivesLine (capture_line port fault) (F.seen c files.old) (F.seen c files.new)
         (F.faults files.old ToErr) (F.faults files.new ToErr) }
+    ensures own { (named : List ℕ → Bool) (c d : Contents) → AreAlike named (F.seen c files.old) (F.seen d files.old)
+        → AreAlike named (F.seen c files.new) (F.seen d files.new) }
     ensures no_others { OnlyRose of_err (F.faults files.old) (F.faults files.new) }
     ensures never_fall { NeverFall (F.faults files.old) (F.faults files.new) }
 {
@@ -175,6 +185,8 @@ fn print_capture<F: Files>(files: &mut F, port: u32, fault: PcapFault)
 fn print_refusal<F: Files>(files: &mut F, fault: PlanFault)
     ensures line { (c : Contents) → GivesLine (refusal_line fault) (F.seen c files.old) (F.seen c files.new)
         (F.faults files.old ToErr) (F.faults files.new ToErr) }
+    ensures own { (named : List ℕ → Bool) (c d : Contents) → AreAlike named (F.seen c files.old) (F.seen d files.old)
+        → AreAlike named (F.seen c files.new) (F.seen d files.new) }
     ensures no_others { OnlyRose of_err (F.faults files.old) (F.faults files.new) }
     ensures never_fall { NeverFall (F.faults files.old) (F.faults files.new) }
 {
@@ -217,6 +229,8 @@ fn print_refusal<F: Files>(files: &mut F, fault: PlanFault)
 pub fn print_usage<F: Files>(files: &mut F)
     ensures line { (c : Contents) → GivesLine usage_line (F.seen c files.old) (F.seen c files.new)
         (F.faults files.old ToErr) (F.faults files.new ToErr) }
+    ensures own { (named : List ℕ → Bool) (c d : Contents) → AreAlike named (F.seen c files.old) (F.seen d files.old)
+        → AreAlike named (F.seen c files.new) (F.seen d files.new) }
     ensures no_others { OnlyRose of_err (F.faults files.old) (F.faults files.new) }
     ensures never_fall { NeverFall (F.faults files.old) (F.faults files.new) }
 {
@@ -227,6 +241,8 @@ pub fn print_usage<F: Files>(files: &mut F)
 pub fn print_memory<F: Files>(files: &mut F)
     ensures line { (c : Contents) → GivesLine memory_line (F.seen c files.old) (F.seen c files.new)
         (F.faults files.old ToErr) (F.faults files.new ToErr) }
+    ensures own { (named : List ℕ → Bool) (c d : Contents) → AreAlike named (F.seen c files.old) (F.seen d files.old)
+        → AreAlike named (F.seen c files.new) (F.seen d files.new) }
     ensures no_others { OnlyRose of_err (F.faults files.old) (F.faults files.new) }
     ensures never_fall { NeverFall (F.faults files.old) (F.faults files.new) }
 {
@@ -248,6 +264,8 @@ fn name_read(job: &Job, input: InputFile) -> &str
 fn print_write_fault<F: Files>(files: &mut F, job: &Job, written: Written)
     ensures line { (c : Contents) → GivesLine (named_line (codes "write fault: ") (name_written (job_words job.now) written))
         (F.seen c files.old) (F.seen c files.new) (F.faults files.old ToErr) (F.faults files.new ToErr) }
+    ensures own { (named : List ℕ → Bool) (c d : Contents) → AreAlike named (F.seen c files.old) (F.seen d files.old)
+        → AreAlike named (F.seen c files.new) (F.seen d files.new) }
     ensures no_others { OnlyRose of_err (F.faults files.old) (F.faults files.new) }
     ensures never_fall { NeverFall (F.faults files.old) (F.faults files.new) }
 {
@@ -281,6 +299,8 @@ fn print_write_fault<F: Files>(files: &mut F, job: &Job, written: Written)
 fn print_no<F: Files>(files: &mut F, slot: u32, reason: Reason)
     ensures line { (c : Contents) → GivesLine (concat (codes "no: slot " ∷ decimal slot ∷ (reason_parts reason ++ codes "\n" ∷ [])))
         (F.seen c files.old) (F.seen c files.new) (F.faults files.old ToErr) (F.faults files.new ToErr) }
+    ensures own { (named : List ℕ → Bool) (c d : Contents) → AreAlike named (F.seen c files.old) (F.seen d files.old)
+        → AreAlike named (F.seen c files.new) (F.seen d files.new) }
     ensures no_others { OnlyRose of_err (F.faults files.old) (F.faults files.new) }
     ensures never_fall { NeverFall (F.faults files.old) (F.faults files.new) }
 {
@@ -307,6 +327,8 @@ fn print_no<F: Files>(files: &mut F, slot: u32, reason: Reason)
 fn print_check<F: Files>(files: &mut F, file: &str, ending: CheckEnding)
     ensures line { (c : Contents) → GivesLine (check_line file.now ending) (F.seen c files.old) (F.seen c files.new)
         (F.faults files.old ToErr) (F.faults files.new ToErr) }
+    ensures own { (named : List ℕ → Bool) (c d : Contents) → AreAlike named (F.seen c files.old) (F.seen d files.old)
+        → AreAlike named (F.seen c files.new) (F.seen d files.new) }
     ensures no_fault { check_status ending ≡ 0 → NoneRose (F.faults files.old) (F.faults files.new) }
     ensures no_others { OnlyRose of_err (F.faults files.old) (F.faults files.new) }
     ensures never_fall { NeverFall (F.faults files.old) (F.faults files.new) }
@@ -335,6 +357,8 @@ fn print_check<F: Files>(files: &mut F, file: &str, ending: CheckEnding)
 fn print_checked<F: Files>(files: &mut F, job: &Job, ending: CheckEnding)
     ensures line { (c : Contents) → GivesLine (checked_line (job_words job.now) ending)
         (F.seen c files.old) (F.seen c files.new) (F.faults files.old ToErr) (F.faults files.new ToErr) }
+    ensures own { (named : List ℕ → Bool) (c d : Contents) → AreAlike named (F.seen c files.old) (F.seen d files.old)
+        → AreAlike named (F.seen c files.new) (F.seen d files.new) }
     ensures no_fault { check_status ending ≡ 0 → NoneRose (F.faults files.old) (F.faults files.new) }
     ensures no_others { OnlyRose of_err (F.faults files.old) (F.faults files.new) }
     ensures never_fall { NeverFall (F.faults files.old) (F.faults files.new) }
@@ -349,6 +373,8 @@ fn print_checked<F: Files>(files: &mut F, job: &Job, ending: CheckEnding)
 pub fn print_line<F: Files>(files: &mut F, job: &Job, ending: Ending)
     ensures line { (c : Contents) → GivesLine (line_of (job_words job.now) ending)
         (F.seen c files.old) (F.seen c files.new) (F.faults files.old ToErr) (F.faults files.new ToErr) }
+    ensures own { (named : List ℕ → Bool) (c d : Contents) → AreAlike named (F.seen c files.old) (F.seen d files.old)
+        → AreAlike named (F.seen c files.new) (F.seen d files.new) }
     ensures no_fault { status_of ending ≡ 0 → NoneRose (F.faults files.old) (F.faults files.new) }
     ensures no_others { OnlyRose of_err (F.faults files.old) (F.faults files.new) }
     ensures never_fall { NeverFall (F.faults files.old) (F.faults files.new) }

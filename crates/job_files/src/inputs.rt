@@ -1,5 +1,5 @@
-ghost use Rattle.std.specs.Prelude.{◌≡◌, ◌≤◌, ◌<◌, Some, length, vec_len, IfErr, IfOk, IfSome, OnOk};
-ghost use Rattle.outside.specs.Contents.{Contents, Stays};
+ghost use Rattle.std.specs.Prelude.{◌≡◌, ◌≤◌, ◌<◌, ℕ, List, Bool, Some, true, length, vec_len, All, IfErr, IfOk, IfSome, OnOk};
+ghost use Rattle.outside.specs.Contents.{AreAlike, Contents, Stays};
 ghost use Rattle.outside.specs.Faults.{NeverFall, NoneRose, OnlyRose};
 ghost use Rattle.outside.specs.WholeFiles.{Fits};
 ghost use Rattle.switch_words.specs.Limits.{IsGenWithinLimits};
@@ -7,7 +7,7 @@ ghost use Rattle.switch_words.specs.Reading.{run_words, firm_words};
 ghost use Rattle.switch_plan.specs.Made.{made_table, made_captures};
 ghost use Rattle.switch_plan.specs.ReadingSteps.{bytes_of_files};
 ghost use Rattle.job_files.specs.Inputs.{AreFilesRead, CapturesRead, EarlierFit};
-ghost use Rattle.job_files.specs.Jobs.{IsInput, input_name, most_bytes, run_reads, firm_reads};
+ghost use Rattle.job_files.specs.Jobs.{AreNamed, IsInput, input_name, most_bytes, run_reads, firm_reads};
 ghost use Rattle.job_files.specs.FileSteps.{AreOfSize, StopsReading, reads_words};
 ghost use Rattle.job_files.specs.Statuses.{refused_by};
 
@@ -103,6 +103,8 @@ fn read_input<F: Files>(
     requires known { IsInput (reads_words reads.now) input }
     requires earlier { (c : Contents) → IfSome (F.seen c files.old) (EarlierFit (reads_words reads.now) input) }
     ensures seen { (c : Contents) → Stays (F.seen c files.old) (F.seen c files.new) }
+    ensures own { (named : List ℕ → Bool) (c d : Contents) → named (input_name (reads_words reads.now) input) ≡ true
+        → AreAlike named (F.seen c files.old) (F.seen d files.old) → AreAlike named (F.seen c files.new) (F.seen d files.new) }
     ensures no_fault { OnOk result (NoneRose (F.faults files.old) (F.faults files.new)) }
     ensures refused { IfErr result (λ ending. OnlyRose (refused_by ending) (F.faults files.old) (F.faults files.new)) }
     ensures never_fall { NeverFall (F.faults files.old) (F.faults files.new) }
@@ -131,6 +133,8 @@ fn read_captures<F: Files>(
     requires ports { length reads.now.inputs.now ≤ MAX_PORTS }
     requires table { (c : Contents) → IfSome (F.seen c files.old) (λ d. Fits d (reads_words reads.now).table) }
     ensures seen { (c : Contents) → Stays (F.seen c files.old) (F.seen c files.new) }
+    ensures own { (named : List ℕ → Bool) (c d : Contents) → All (λ name. named name ≡ true) (reads_words reads.now).inputs
+        → AreAlike named (F.seen c files.old) (F.seen d files.old) → AreAlike named (F.seen c files.new) (F.seen d files.new) }
     ensures no_fault { OnOk result (NoneRose (F.faults files.old) (F.faults files.new)) }
     ensures refused { IfErr result (λ ending. OnlyRose (refused_by ending) (F.faults files.old) (F.faults files.new)) }
     ensures never_fall { NeverFall (F.faults files.old) (F.faults files.new) }
@@ -154,6 +158,8 @@ pub fn read_inputs<F: Files>(
 ) -> Result<Inputs, Ending>
     requires { length reads.now.inputs.now ≤ MAX_PORTS }
     ensures seen { (c : Contents) → Stays (F.seen c files.old) (F.seen c files.new) }
+    ensures own { (named : List ℕ → Bool) (c d : Contents) → AreNamed named (reads_words reads.now)
+        → AreAlike named (F.seen c files.old) (F.seen d files.old) → AreAlike named (F.seen c files.new) (F.seen d files.new) }
     ensures no_fault { OnOk result (NoneRose (F.faults files.old) (F.faults files.new)) }
     ensures refused { IfErr result (λ ending. OnlyRose (refused_by ending) (F.faults files.old) (F.faults files.new)) }
     ensures never_fall { NeverFall (F.faults files.old) (F.faults files.new) }

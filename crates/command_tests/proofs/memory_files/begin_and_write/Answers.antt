@@ -4,13 +4,13 @@ use Rattle.outside.proofs.Effects.{is_begun, is_begun-after_write}
 use Rattle.command_tests.proofs.memory_files.begin_and_write.Goals as goal
 
 pub write-wrote-requires : goal.write-wrote-requires
-write-wrote-requires g c = record { begun = rw c.in_ok-begin.ensures.told (is_begun c.args.name.now _) }
+write-wrote-requires g c = record { begun = λ d. rw (c.in_ok-begin.ensures.seen d) (is_begun c.args.name.now _) }
 
 pub write-requires : goal.write-requires
 write-requires g c =
     let name = c.args.name.now in
-    let told = g.F.Files.told c.args.files.now in
+    let was = λ d. g.F.Files.seen d c.args.files.now in
     record {
-      begun = rw (c.write-wrote.ensures.told, c.in_ok-begin.ensures.told)
-          (is_begun-after_write c.write-wrote.result name c.args.first.now name (option_map (begin_file name) told) (is_begun name told));
+      begun = λ d. rw (c.write-wrote.ensures.seen d, c.in_ok-begin.ensures.seen d)
+          (is_begun-after_write c.write-wrote.result name c.args.first.now name (option_map (begin_file name) (was d)) (is_begun name (was d)));
     }

@@ -10,11 +10,15 @@ returns-then-is_err-clause-line g c d =
     (sym c.is_err.ensures.value ∙ c.if-is_err.true)
     (c.loop-part.invariant.seen d) (c.give_part.ensures.seen d) (c.loop-part.invariant.never_fall ToErr) c.give_part.ensures.cause
 
+pub returns-then-is_err-clause-own : goal.returns-then-is_err-clause-own
+returns-then-is_err-clause-own g c named d e alike = c.give_part.ensures.own named d e (c.loop-part.invariant.own named d e alike)
+
 pub loop-part-preserved : goal.loop-part-preserved
 loop-part-preserved g c = record {
   seen = λ d. given_more part_text c.args.parts.now c.loop-part.part-index _ c.give_part.result _ _ _ c.loop-part-test.true
       (sym c.is_err.ensures.value ∙ c.if-is_err.false)
       (c.loop-part.invariant.seen d) (c.give_part.ensures.seen d);
+  own = λ named d e alike. c.give_part.ensures.own named d e (c.loop-part.invariant.own named d e alike);
   no_others = λ p other. c.give_part.ensures.no_others p other ∙ c.loop-part.invariant.no_others p other;
   never_fall = λ p. omega (arith, c.loop-part.invariant.never_fall p, c.give_part.ensures.never_fall p);
 }

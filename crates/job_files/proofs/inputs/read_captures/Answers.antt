@@ -1,4 +1,4 @@
-use Rattle.std.proofs.Common.{◌<◌, length, string_bytes, ap, arith, ◌∙◌}
+use Rattle.std.proofs.Common.{◌<◌, [], length, string_bytes, ap, arith, ◌∙◌}
 use Rattle.std.specs.Prelude.{is_ok}
 use Rattle.std.proofs.lemmas.List.{length-map}
 use Rattle.std.proofs.lemmas.Result.{err_from_is_err_and}
@@ -18,6 +18,17 @@ returns-in_err-capture-clause-stops g c d =
     (StopsReading-since (reads_words c.args.reads.now) (g.F.Files.seen d c.read_input.new.files) (counts c.args.files.now) (counts c.loop-port.files)
     (counts c.read_input.new.files) c.in_err-capture.field-0.0 c.loop-port.invariant.never_fall (c.in_err-capture.ensures.stops d))
 
+pub returns-in_err-capture-clause-seen : goal.returns-in_err-capture-clause-seen
+returns-in_err-capture-clause-seen g c d =
+    let see = g.F.Files.seen d in
+    Stays-trans (see c.args.files.now) (see c.loop-port.files) (see c.read_input.new.files) (c.loop-port.invariant.seen d) (c.in_err-capture.ensures.seen d)
+
+pub returns-in_err-capture-clause-own : goal.returns-in_err-capture-clause-own
+returns-in_err-capture-clause-own g c named d e all alike =
+    let inputs = (reads_words c.args.reads.now).inputs in
+    let within : c.loop-port.port < length inputs = omega (arith, length-map c.args.reads.now.inputs.now string_bytes, c.loop-port-test.true) in
+    c.in_err-capture.ensures.own named d e (all c.loop-port.port [] within) (c.loop-port.invariant.own named d e all alike)
+
 pub loop-port-preserved : goal.loop-port-preserved
 loop-port-preserved g c =
     let words = reads_words c.args.reads.now in
@@ -28,6 +39,7 @@ loop-port-preserved g c =
     record {
       seen = λ d. Stays-trans (see d c.args.files.now) (see d c.loop-port.files) (see d c.read_input.new.files) (c.loop-port.invariant.seen d)
           (c.in_ok-capture.ensures.seen d);
+      own = λ named d e all alike. c.in_ok-capture.ensures.own named d e (all c.loop-port.port [] within) (c.loop-port.invariant.own named d e all alike);
       no_fault = λ p. c.in_ok-capture.ensures.no_fault p ∙ c.loop-port.invariant.no_fault p;
       never_fall = λ p. omega (arith, c.loop-port.invariant.never_fall p, c.in_ok-capture.ensures.never_fall p);
       room = omega (arith, c.read_input.auto.buf, c.loop-port.invariant.room);

@@ -42,3 +42,6 @@ returns-then-is_err-clause-err g c d =
     c.in_default.ensures.ok d ∙ ap (λ (files : List OutputFile). option_map (put_files (map shown files)) (see old)) c.as_slice.ensures.value in
     subst (λ (n : ℕ). StopsAtPlace (first ++ more) n (see old) (counts old) (counts new) (see new)) (length-map items shown)
     (stops_after first more (counts old) (counts mid) (counts new) (see old) (see mid) (see new) c.in_default.ensures.never_fall put stops)
+
+pub returns-then-is_err-clause-own : goal.returns-then-is_err-clause-own
+returns-then-is_err-clause-own g c named d e alike = c.put_packets.ensures.own named d e (c.put_all.ensures.own named d e alike)

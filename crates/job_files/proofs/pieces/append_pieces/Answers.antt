@@ -3,6 +3,7 @@ use Rattle.std.specs.Prelude.{option_map}
 use Rattle.std.proofs.lemmas.Result.{err_from_is_err_and}
 use Rattle.outside.specs.Contents.{append_file}
 use Rattle.outside.specs.Faults.{WriteOf}
+use Rattle.outside.proofs.Alike.{alike_append_file}
 use Rattle.outside.proofs.Counting.{NeverFall-Rose}
 use Rattle.outside.proofs.Effects.{is_begun-append_file}
 use Rattle.job_files.proofs.Piecewise.{appended-more, appended-none, first-part, nothing-left, rest, rest-first, rest-fits, written-all, written-end}
@@ -16,6 +17,7 @@ loop-at-init g c =
     record {
       done = [];
       seen = λ d. sym (appended-none c.args.name.now (g.F.Files.seen d c.args.files.now));
+      own = λ named d e alike. alike;
       text = rest-first next.new.buf (left c.args.pieces.now) (left next.new.self) next.result next.ensures.text;
       last = λ over. nothing-left next.new.buf (left c.args.pieces.now) (left next.new.self) next.result next.ensures.text (next.ensures.end.0)
           (omega (arith, over));
@@ -39,6 +41,8 @@ loop-at-preserved g c =
       done = was.done ++ take k piece;
       seen = λ d. appended-more c.args.name.now was.done (take k piece) (see d c.args.files.now) (see d c.loop-at.files) (see d c.write.new.self)
           (c.in_ok-at.ensures.seen d) (was.seen d);
+      own = λ named d e alike. rw (c.in_ok-at.ensures.seen d, c.in_ok-at.ensures.seen e)
+          (alike_append_file named c.args.name.now _ (see d c.loop-at.files) (see e c.loop-at.files) (was.own named d e alike));
       text = written-more (left c.args.pieces.now) was.done c.loop-at.buf (left c.loop-at.pieces) c.loop-at.at k c.loop-at.end fits was.text;
       last = λ over. absurd (c.if-at-end.false (omega (arith, over, fits)));
       no_fault = λ p. c.in_ok-at.ensures.no_fault p ∙ was.no_fault p;
@@ -66,6 +70,8 @@ loop-at-preserved-then-at-end g c =
       done = was.done ++ take k piece;
       seen = λ d. appended-more c.args.name.now was.done (take k piece) (see d c.args.files.now) (see d c.loop-at.files) (see d c.write.new.self)
           (c.in_ok-at.ensures.seen d) (was.seen d);
+      own = λ named d e alike. rw (c.in_ok-at.ensures.seen d, c.in_ok-at.ensures.seen e)
+          (alike_append_file named c.args.name.now _ (see d c.loop-at.files) (see e c.loop-at.files) (was.own named d e alike));
       text = written-next text (was.done ++ take k piece) (left c.loop-at.pieces) next.new.buf (left next.new.self) next.result all next.ensures.text;
       last = λ over. nothing-left next.new.buf (left c.loop-at.pieces) (left next.new.self) next.result next.ensures.text next.ensures.end.0
           (omega (arith, over));
@@ -90,6 +96,10 @@ returns-in_err-at-clause-seen g c d =
         c.in_err-at.ensures.seen d ∙ was.seen d ∙ ap (λ xs. option_map (append_file c.args.name.now xs) was_seen) (first-part was.done _ _ was.text),
       ),
     )
+
+pub returns-in_err-at-clause-own : goal.returns-in_err-at-clause-own
+returns-in_err-at-clause-own g c named d e alike =
+    rw (c.in_err-at.ensures.seen d, c.in_err-at.ensures.seen e) (c.loop-at.invariant.own named d e alike)
 
 pub returns-clause-seen : goal.returns-clause-seen
 returns-clause-seen g c d =
