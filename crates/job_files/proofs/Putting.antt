@@ -7,7 +7,7 @@ use Rattle.std.proofs.lemmas.List.{get_or-map, get_or_append_left, length-map, m
 use Rattle.std.proofs.lemmas.Bool.{cases_lt, le-ltb, lt-ltb}
 use Rattle.std.proofs.lemmas.Bool.Decides.{eqb_tells}
 use Rattle.std.proofs.lemmas.List.Sums.{fold-append, fold_more}
-use Rattle.outside.specs.Contents.{Contents}
+use Rattle.outside.specs.Contents.{Contents, append_out}
 use Rattle.outside.specs.Faults.{Place, NeverFall}
 use Rattle.outside.specs.WholeFiles.{NamedBytes, Puts, StopsAt, put_file}
 use Rattle.outside.proofs.Counting.{NeverFall-refl}
@@ -122,6 +122,15 @@ pub put_then : (first more : List NamedBytes) (o : Option Contents)
     → option_map (put_files more) (option_map (put_files first) o) ≡ option_map (put_files (first ++ more)) o
 put_then first more None = refl
 put_then first more (Some c) = ap Some (sym (fold-append put_file c first more))
+
+-- files put, then more, and then a text given to standard output
+pub put_and_given : (first more : List NamedBytes) (bytes text : List ℕ) (o mid packed new : Option Contents) → bytes ≡ text
+    → mid ≡ option_map (put_files first) o → packed ≡ option_map (put_files more) mid → new ≡ option_map (append_out bytes) packed
+    → new ≡ option_map (λ c. append_out text (put_files (first ++ more) c)) o
+put_and_given first more bytes text o mid packed new same put then given =
+    given ∙ ap (λ b. option_map (append_out b) packed) same
+    ∙ ap (option_map (append_out text)) (then ∙ ap (option_map (put_files more)) put ∙ put_then first more o)
+    ∙ option_map-option_map (put_files (first ++ more)) (append_out text) o
 
 none_put : (o : Option Contents) → option_map (put_files []) o ≡ o
 none_put None = refl

@@ -18,11 +18,6 @@ returns-in_err-capture-clause-stops g c d =
     (StopsReading-since (reads_words c.args.reads.now) (g.F.Files.seen d c.read_input.new.files) (counts c.args.files.now) (counts c.loop-port.files)
     (counts c.read_input.new.files) c.in_err-capture.field-0.0 c.loop-port.invariant.never_fall (c.in_err-capture.ensures.stops d))
 
-pub returns-in_err-capture-clause-seen : goal.returns-in_err-capture-clause-seen
-returns-in_err-capture-clause-seen g c d =
-    let see = g.F.Files.seen d in
-    Stays-trans (see c.args.files.now) (see c.loop-port.files) (see c.read_input.new.files) (c.loop-port.invariant.seen d) (c.in_err-capture.ensures.seen d)
-
 pub returns-in_err-capture-clause-own : goal.returns-in_err-capture-clause-own
 returns-in_err-capture-clause-own g c named d e all alike =
     let inputs = (reads_words c.args.reads.now).inputs in

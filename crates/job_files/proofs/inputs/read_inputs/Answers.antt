@@ -1,5 +1,4 @@
 use Rattle.std.proofs.lemmas.Result.{err_from_is_err_and}
-use Rattle.outside.proofs.Staying.{IfSome-Stays, Stays-refl, Stays-trans}
 use Rattle.job_files.specs.FileSteps.{reads_words}
 use Rattle.job_files.proofs.StoppingReads.{StopsReading-since}
 use Rattle.job_files.proofs.inputs.read_inputs.Goals as goal
@@ -18,15 +17,6 @@ returns-in_err-table-clause-stops g c d =
     let failed = err_from_is_err_and c.from_residual-in_err-table.result c.from_residual-in_err-table.ensures.1 in
     rw (failed.1, failed.2) (c.in_err-table.ensures.stops d)
 
-pub returns-in_err-piece-clause-seen : goal.returns-in_err-piece-clause-seen
-returns-in_err-piece-clause-seen g c d = Stays-refl (g.F.Files.seen d c.args.files.now)
-
-pub returns-in_err-captures-clause-seen : goal.returns-in_err-captures-clause-seen
-returns-in_err-captures-clause-seen g c d =
-    let see = g.F.Files.seen d in
-    Stays-trans (see c.args.files.now) (see c.read_input.new.files) (see c.read_captures.new.files) (c.in_ok-table.ensures.seen d)
-    (c.in_err-captures.ensures.seen d)
-
 pub returns-in_err-captures-clause-own : goal.returns-in_err-captures-clause-own
 returns-in_err-captures-clause-own g c named d e all alike =
     c.in_err-captures.ensures.own named d e all.1 (c.in_ok-table.ensures.own named d e all.0 alike)
@@ -34,22 +24,6 @@ returns-in_err-captures-clause-own g c named d e all alike =
 pub returns-in_err-table-clause-own : goal.returns-in_err-table-clause-own
 returns-in_err-table-clause-own g c named d e all alike = c.in_err-table.ensures.own named d e all.0 alike
 
-pub returns-clause-seen : goal.returns-clause-seen
-returns-clause-seen g c d =
-    let see = g.F.Files.seen d in
-    Stays-trans (see c.args.files.now) (see c.read_input.new.files) (see c.read_captures.new.files) (c.in_ok-table.ensures.seen d)
-    (c.in_ok-captures.ensures.seen d)
-
 pub returns-clause-own : goal.returns-clause-own
 returns-clause-own g c named d e all alike =
     c.in_ok-captures.ensures.own named d e all.1 (c.in_ok-table.ensures.own named d e all.0 alike)
-
-pub returns-clause-read : goal.returns-clause-read
-returns-clause-read g c d =
-    let see = g.F.Files.seen d in
-    record {
-      table_fits = c.in_ok-table.ensures.fits;
-      table_there = IfSome-Stays (see c.read_input.new.files) (see c.read_captures.new.files) _ (c.in_ok-captures.ensures.seen d)
-          (c.in_ok-table.ensures.bytes d);
-      captures_read = c.in_ok-captures.ensures.read d;
-    }
