@@ -127,9 +127,9 @@ put_then first more (Some c) = ap Some (sym (fold-append put_file c first more))
 pub put_and_given : (first more : List NamedBytes) (bytes text : List ℕ) (o mid packed new : Option Contents) → bytes ≡ text
     → mid ≡ option_map (put_files first) o → packed ≡ option_map (put_files more) mid → new ≡ option_map (append_out bytes) packed
     → new ≡ option_map (λ c. append_out text (put_files (first ++ more) c)) o
-put_and_given first more bytes text o mid packed new same put then given =
+put_and_given first more bytes text o mid packed new same put wrote given =
     given ∙ ap (λ b. option_map (append_out b) packed) same
-    ∙ ap (option_map (append_out text)) (then ∙ ap (option_map (put_files more)) put ∙ put_then first more o)
+    ∙ ap (option_map (append_out text)) (wrote ∙ ap (option_map (put_files more)) put ∙ put_then first more o)
     ∙ option_map-option_map (put_files (first ++ more)) (append_out text) o
 
 none_put : (o : Option Contents) → option_map (put_files []) o ≡ o
