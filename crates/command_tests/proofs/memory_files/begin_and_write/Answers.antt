@@ -9,8 +9,9 @@ write-wrote-requires g c = record { begun = λ d. rw (c.in_ok-begin.ensures.seen
 pub write-requires : goal.write-requires
 write-requires g c =
     let name = c.args.name.now in
-    let was = λ d. g.F.Files.seen d c.args.files.now in
+    let see = g.F.Files.seen in
     record {
       begun = λ d. rw (c.write-wrote.ensures.seen d, c.in_ok-begin.ensures.seen d)
-          (is_begun-after_write c.write-wrote.result name c.args.first.now name (option_map (begin_file name) (was d)) (is_begun name (was d)));
+          (is_begun-after_write c.write-wrote.result name c.args.first.now name (option_map (begin_file name) (see d c.args.files.now))
+          (is_begun name (see d c.args.files.now)));
     }
