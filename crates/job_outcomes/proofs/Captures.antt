@@ -58,22 +58,22 @@ module _ (order : Order) (nano : Bool) (file : List ℕ) (at : ℕ) (bytes : IsB
   RecordOrNone = ((s : Stored) × IsStored order nano file at s) ⊎ ((fault : PcapFault) × IsBroken order (drop at file) at fault)
 
   with_header : at + 16 ≤ length file → RecordOrNone
-  with_header there = elim (cases_lt 262144 captured) [
+  with_header there = let header = header_there there in elim (cases_lt 262144 captured) [
     | inl long ↦ inr (
       LongRecord at captured,
       (
         refl,
         record {
           more = drop (at + 16) file;
-          announced = record { seconds = seconds; fraction = fraction; original = original; spelled = header_there there };
+          announced = record { seconds = seconds; fraction = fraction; original = original; spelled = header };
           over = long;
           fits = below (at + 8);
         },
       ),
     )
     | inr few ↦ elim (cases_lt (length file) (at + 16 + captured)) [
-      | inl cut ↦ inr (CutRecord at, (refl, cut_in_bytes order file at seconds fraction captured original (header_there there) few cut there))
-      | inr within ↦ inl (_, stored order nano file at seconds fraction captured original (header_there there) (below at) (below (at + 4)) (below (at + 12)) few within)
+      | inl cut ↦ inr (CutRecord at, (refl, cut_in_bytes order file at seconds fraction captured original header few cut there))
+      | inr within ↦ inl (_, stored order nano file at seconds fraction captured original header (below at) (below (at + 4)) (below (at + 12)) few within)
     ]
   ]
 
@@ -95,7 +95,8 @@ pub data Reads (file : List ℕ) : Type 0 where
   walked : (nano : Bool) (link : Link) (packets : List Stored) → IsWalked file nano link packets → Reads file
   faulty : (fault : PcapFault) → IsFault file fault → Reads file
 
-module _ (order : Order) (nano : Bool) (link : Link) (file : List ℕ) (bytes : IsBytes file) (header : HasHeader file (header_of order nano link) (drop 24 file)) where
+module _ (order : Order) (nano : Bool) (link : Link) (file : List ℕ) (bytes : IsBytes file)
+    (header : HasHeader file (header_of order nano link) (drop 24 file)) where
   ended : (at : ℕ) (packets : List Stored) → IsReadBefore order nano file at packets → length file ≤ at → Reads file
   ended at packets before done =
       walked nano link packets

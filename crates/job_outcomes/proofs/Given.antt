@@ -17,7 +17,8 @@ capture_short : (long : Bool) (size : ℕ) → size ≤ capture_bytes long → s
 capture_short true size fits = omega arith
 capture_short false size fits = omega arith
 
-byte_files : (long : Bool) (captures : List (List ℕ)) → All AreBytes captures → All (λ bytes. length bytes ≤ capture_bytes long) captures → All IsByteFile captures
+byte_files : (long : Bool) (captures : List (List ℕ)) → All AreBytes captures → All (λ bytes. length bytes ≤ capture_bytes long) captures
+    → All IsByteFile captures
 byte_files long captures bytes fit k d inside =
     record { bytes = bytes k d inside; short = capture_short long (length (slice_index_or captures k d)) (fit k d inside) }
 

@@ -131,10 +131,14 @@ pub data RefusedOrPlanned (settings : Settings) (table : List ℕ) (files : List
   refused : (fault : PlanFault) → IsRefusal (terms_of settings) table files fault → RefusedOrPlanned settings table files
   planned : (plan : SwitchPlan) → IsPlanned settings table files plan → RefusedOrPlanned settings table files
 
-module _ (settings : Settings) (limits : AreWithinLimits settings) (table : List ℕ) (files : List (List ℕ)) (some : 0 < length files) (few : length files ≤ 64) where
+module _ (settings : Settings) (limits : AreWithinLimits settings) (table : List ℕ) (files : List (List ℕ)) (some : 0 < length files)
+    (few : length files ≤ 64) where
+  abbrev Outcome : Type 0
+  Outcome = RefusedOrPlanned settings table files
+
   -- where the table and the captures were read
   by_cause : (lines : List RouteLine) → reading_of (length files) table ≡ Ok lines → (captures : List ACapture) → AreCapturesOf files captures
-      → (cause : Option PlanFault) → refusal_of (terms_of settings) lines (map file_of captures) ≡ cause → RefusedOrPlanned settings table files
+      → (cause : Option PlanFault) → refusal_of (terms_of settings) lines (map file_of captures) ≡ cause → Outcome
   by_cause lines good captures are (Some fault) is =
       elim (refused_result settings table files (length files) lines captures refl good are (Err fault) (inr is)) [
         | inl memory ↦ absurd (no_memory (terms_of settings) lines (map file_of captures) (is ∙ ap Some memory))
@@ -145,29 +149,30 @@ module _ (settings : Settings) (limits : AreWithinLimits settings) (table : List
       let made = plan_of_captures settings lines captures limits (omega arith) (omega arith)
       (subst (λ n. AreRoutesOf n lines) (sym count) (table_routes (length files) table lines good)) (own_bytes files captures are) is in
       let whole = planned_result settings table files (length files) lines captures refl good are (Ok made.0) made.1 in
-      planned (switch_plan_of made.0) (record {
+      let plan = switch_plan_of made.0 in
+      let good = made.1.good in
+      planned plan (record {
         lines = whole.0;
         captures = whole.1;
         read = whole.2;
         allowed = whole.3;
-        good = made.1.good;
+        good = good;
         countable =
-            countable_of settings.long (length captures) (switch_plan_of made.0) made.1.within made.1.burst (burst_is_countable (switch_plan_of made.0) made.1.good)
-            (long_is_countable (switch_plan_of made.0) made.1.good);
+            countable_of settings.long (length captures) plan made.1.within made.1.burst (burst_is_countable plan good) (long_is_countable plan good);
         burst = made.1.burst;
         planned = whole.4;
       })
 
-  by_files : (lines : List RouteLine) → reading_of (length files) table ≡ Ok lines → FilesRead files → RefusedOrPlanned settings table files
+  by_files : (lines : List RouteLine) → reading_of (length files) table ≡ Ok lines → FilesRead files → Outcome
   by_files lines good (has_fault port fault is) = refused (Capture port fault) (lines, good, is)
   by_files lines good (are_captures captures are) =
       by_cause lines good captures are (refusal_of (terms_of settings) lines (map file_of captures)) refl
 
-  by_table : (reading : Result (List RouteLine) TableFault) → reading_of (length files) table ≡ reading → FilesRead files → RefusedOrPlanned settings table files
+  by_table : (reading : Result (List RouteLine) TableFault) → reading_of (length files) table ≡ reading → FilesRead files → Outcome
   by_table (Err fault) is read = refused (Table fault) is
   by_table (Ok lines) is read = by_files lines is read
 
-  pub refused_or_planned : All IsByteFile files → RefusedOrPlanned settings table files
+  pub refused_or_planned : All IsByteFile files → Outcome
   refused_or_planned good =
       by_table (reading_of (length files) table) refl
       (files_read files (λ k file at.

@@ -21,7 +21,8 @@ pub record IsMade {A B : Type 0} (R : ℕ → A → B → Type 0) (xs : List A) 
   pub count : length ys ≡ length xs
   pub each : (k : ℕ) (x : A) (y : B) → slice_get xs k ≡ Some x → slice_get ys k ≡ Some y → R k x y
 
-made_more : {A B : Type 0} (R : ℕ → A → B → Type 0) (xs : List A) (ys : List B) (x : A) (y : B) → R 0 x y → IsMade (λ k. R (suc k)) xs ys → IsMade R (x ∷ xs) (y ∷ ys)
+made_more : {A B : Type 0} (R : ℕ → A → B → Type 0) (xs : List A) (ys : List B) (x : A) (y : B) → R 0 x y → IsMade (λ k. R (suc k)) xs ys
+    → IsMade R (x ∷ xs) (y ∷ ys)
 made_more R xs ys x y first rest = record { count = ap suc rest.count; each = at }
   where
     at : (k : ℕ) (a : _) (b : _) → slice_get (x ∷ xs) k ≡ Some a → slice_get (y ∷ ys) k ≡ Some b → R k a b
