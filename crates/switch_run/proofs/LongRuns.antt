@@ -21,8 +21,7 @@ use Rattle.switch_plan.specs.declared.limits.TheConstants.{MAX_LONG_SLOTS, MAX_L
 use Rattle.switch_plan.specs.Traffic.{CaptureFile, traffic_of, unplaced}
 use Rattle.switch_plan.specs.Totals.{most_for, slots_of, total_work}
 use Rattle.switch_plan.specs.Refusals.{burst_limits, first_link, first_over, long_limits, mixed_links, over_traffic, over_packets, over_cells, refusal_of}
-use Rattle.switch_plan.specs.Refusals.{terms_of}
-use Rattle.switch_plan.specs.GoodPlans.{SwitchPlan, IsGood, IsBurst, IsPlanOf, packets_in}
+use Rattle.switch_plan.specs.GoodPlans.{SwitchPlan, IsGood, IsBurst, packets_in}
 use Rattle.switch_plan.proofs.RoomBounds.{most_few}
 use Rattle.eslip_rounds.specs.Schedulers.{Scheduler}
 use Rattle.named_schedulers.specs.Named.{decision_named}
