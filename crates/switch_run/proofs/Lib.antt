@@ -15,3 +15,4 @@ pub mod RunsMade
 pub mod Bounds
 pub mod MadeInputs
 pub mod DoneRuns
+pub mod Held

@@ -1,5 +1,5 @@
 ghost use Rattle.std.specs.Prelude.{◌≡◌, ◌≤◌, ◌+◌, ℕ, Bool, Option, None, Some, length, map, string_bytes, IfOk};
-ghost use Rattle.outside.specs.Contents.{Contents};
+ghost use Rattle.outside.specs.Contents.{Contents, held};
 ghost use Rattle.outside.specs.Faults.{NeverFall, NoneRose, OnlyRose, Place};
 ghost use Rattle.job_files.specs.Statuses.{RefusedCallsEnd, refused_by, status_of};
 ghost use Rattle.switch_words.specs.Limits.{IsWithinLimits};
@@ -35,11 +35,14 @@ use switch_words::{Job, WordsFault, read_words};
 // Writes the texts of a job, where they were made: how the job ends.
 fn end_of_writing<F: Files>(made: Result<JobTexts<PacketPieces>, Ending>, files: &mut F) -> Ending
     requires { IfOk made (λ texts. length texts.files.items ≤ MAX_PORTS + 3) }
-    ensures meaning { (job : JobWords) (old : Option Contents) (was : Place → ℕ) → Makes job old was (F.faults files.old) (F.told files.old) made
-        → IsEndOf job old was (F.faults files.new) (F.told files.new) result }
-    ensures no_fault { (job : JobWords) (old : Option Contents) (was : Place → ℕ) → Makes job old was (F.faults files.old) (F.told files.old) made
+    ensures meaning { (c : Contents) (job : JobWords) (old : Option Contents) (was : Place → ℕ)
+        → Makes job old was (F.faults files.old) (F.seen c files.old) made
+        → IsEndOf job old was (F.faults files.new) (F.seen c files.new) result }
+    ensures no_fault { (c : Contents) (job : JobWords) (old : Option Contents) (was : Place → ℕ)
+        → Makes job old was (F.faults files.old) (F.seen c files.old) made
         → status_of result ≡ 0 → NoneRose was (F.faults files.new) }
-    ensures refused { (job : JobWords) (old : Option Contents) (was : Place → ℕ) → Makes job old was (F.faults files.old) (F.told files.old) made
+    ensures refused { (c : Contents) (job : JobWords) (old : Option Contents) (was : Place → ℕ)
+        → Makes job old was (F.faults files.old) (F.seen c files.old) made
         → OnlyRose (refused_by result) was (F.faults files.new) }
     ensures never_fall { NeverFall (F.faults files.old) (F.faults files.new) }
 {
@@ -61,7 +64,8 @@ fn attempt<R: Threads + Sync, F: Files, G: Gate + Sync>(
     gate: &G,
 ) -> Ending
     requires { IsWithinLimits job.now }
-    ensures meaning { IsEndOf (job_words job.now) (F.told files.old) (F.faults files.old) (F.faults files.new) (F.told files.new) result }
+    ensures meaning { (c : Contents) → IsEndOf (job_words job.now) (held (F.seen c files.old) (F.seen c files.new)) (F.faults files.old)
+        (F.faults files.new) (F.seen c files.new) result }
     ensures no_fault { status_of result ≡ 0 → NoneRose (F.faults files.old) (F.faults files.new) }
     ensures refused { OnlyRose (refused_by result) (F.faults files.old) (F.faults files.new) }
     ensures never_fall { NeverFall (F.faults files.old) (F.faults files.new) }
@@ -83,11 +87,11 @@ fn run<R: Threads + Sync, F: Files, G: Gate + Sync>(
     gate: &G,
 ) -> Ending
     requires { IsWithinLimits job.now }
-    ensures meaning { (named : Bool) → Means (record {
+    ensures meaning { (c : Contents) (named : Bool) → Means (record {
       named = named;
       job = Some (job_words job.now);
-      old = F.told files.old;
-      new = F.told files.new;
+      old = held (F.seen c files.old) (F.seen c files.new);
+      new = F.seen c files.new;
       was = F.faults files.old;
       now = F.faults files.new;
     }) result }
@@ -108,7 +112,8 @@ fn end_of<R: Threads + Sync, F: Files, G: Gate + Sync>(
     files: &mut F,
     gate: &G,
 ) -> Ending
-    ensures meaning { Means (command_of (map string_bytes words.now) (F.told files.old) (F.told files.new) (F.faults files.old) (F.faults files.new)) result }
+    ensures meaning { (c : Contents) → Means (command_of (map string_bytes words.now) (held (F.seen c files.old) (F.seen c files.new)) (F.seen c files.new)
+        (F.faults files.old) (F.faults files.new)) result }
     ensures unnamed { command_in (map string_bytes words.now) ≡ None → result ≡ Usage }
     ensures no_fault { status_of result ≡ 0 → NoneRose (F.faults files.old) (F.faults files.new) }
     ensures refused { RefusedCallsEnd (F.faults files.old) (F.faults files.new) (status_of result) }
@@ -180,6 +185,8 @@ fn end_of<R: Threads + Sync, F: Files, G: Gate + Sync>(
 /// Where a count of refused reads rose the status is 3, and where one of what is written or of standard output did it is 6.
 /// At 2 to 5 and at 7 every file is as before. Each status but 0 gives one line to standard error; where a call
 /// of that is refused, the rest of the line is left out, and the status stays.
+///
+/// What files hold stands for any contents that agree with what reads gave; so this speaks of a disk too.
 pub fn switch_main<R: Threads + Sync, F: Files, G: Gate + Sync>(
     rt: &R,
     alloc: Global,
@@ -187,7 +194,8 @@ pub fn switch_main<R: Threads + Sync, F: Files, G: Gate + Sync>(
     files: &mut F,
     gate: &G,
 ) -> u8
-    ensures { SwitchTheorem (command_of (map string_bytes words.now) (F.told files.old) (F.told files.new) (F.faults files.old) (F.faults files.new)) result }
+    ensures { (c : Contents) → SwitchTheorem (command_of (map string_bytes words.now) (held (F.seen c files.old) (F.seen c files.new)) (F.seen c files.new)
+        (F.faults files.old) (F.faults files.new)) result }
 {
     deliveries::admitted_packets_are_delivered();
     waits::waiting_queues_are_served();

@@ -1,5 +1,5 @@
 ghost use Rattle.std.specs.Prelude.{◌≡◌, ℕ, Option, IfErr, IfOk, OnOk};
-ghost use Rattle.outside.specs.Contents.{Contents};
+ghost use Rattle.outside.specs.Contents.{Contents, Stays, held};
 ghost use Rattle.outside.specs.Faults.{NeverFall, NoneRose, OnlyRose, Place};
 ghost use Rattle.job_files.specs.Statuses.{refused_by, status_of};
 ghost use Rattle.switch_words.specs.Limits.{IsFirmWithinLimits, IsGenWithinLimits, IsRunWithinLimits};
@@ -43,12 +43,13 @@ pub(crate) fn texts_of_run<R: Threads + Sync, F: Files, G: Gate + Sync>(
     gate: &G,
 ) -> Result<JobTexts<PacketPieces>, Ending>
     requires { IsRunWithinLimits job.now }
-    ensures told { F.told files.new ≡ F.told files.old }
+    ensures seen { (c : Contents) → Stays (F.seen c files.old) (F.seen c files.new) }
     ensures no_fault { OnOk result (NoneRose (F.faults files.old) (F.faults files.new)) }
     ensures refused { IfErr result (λ ending. OnlyRose (refused_by ending) (F.faults files.old) (F.faults files.new)) }
     ensures never_fall { NeverFall (F.faults files.old) (F.faults files.new) }
-    ensures made { IfOk result (λ texts. AreToWrite (run (run_words job.now)) (F.told files.old) (to_write texts)) }
-    ensures stops { IfErr result (Stops (run (run_words job.now)) (F.told files.old) (F.faults files.old) (F.faults files.new) (F.told files.new)) }
+    ensures made { (c : Contents) → IfOk result (λ texts. AreToWrite (run (run_words job.now)) (F.seen c files.new) (to_write texts)) }
+    ensures stops { (c : Contents) → IfErr result (Stops (run (run_words job.now)) (F.seen c files.new) (F.faults files.old) (F.faults files.new)
+        (F.seen c files.new)) }
 {
     let inputs = read_inputs(alloc, &reads_of_run(job), files)?;
     let way = RunWay {
@@ -86,12 +87,13 @@ pub(crate) fn texts_of_firm<R: Threads + Sync, F: Files, G: Gate + Sync>(
     gate: &G,
 ) -> Result<JobTexts<PacketPieces>, Ending>
     requires { IsFirmWithinLimits job.now }
-    ensures told { F.told files.new ≡ F.told files.old }
+    ensures seen { (c : Contents) → Stays (F.seen c files.old) (F.seen c files.new) }
     ensures no_fault { OnOk result (NoneRose (F.faults files.old) (F.faults files.new)) }
     ensures refused { IfErr result (λ ending. OnlyRose (refused_by ending) (F.faults files.old) (F.faults files.new)) }
     ensures never_fall { NeverFall (F.faults files.old) (F.faults files.new) }
-    ensures made { IfOk result (λ texts. AreToWrite (firm (firm_words job.now)) (F.told files.old) (to_write texts)) }
-    ensures stops { IfErr result (Stops (firm (firm_words job.now)) (F.told files.old) (F.faults files.old) (F.faults files.new) (F.told files.new)) }
+    ensures made { (c : Contents) → IfOk result (λ texts. AreToWrite (firm (firm_words job.now)) (F.seen c files.new) (to_write texts)) }
+    ensures stops { (c : Contents) → IfErr result (Stops (firm (firm_words job.now)) (F.seen c files.new) (F.faults files.old) (F.faults files.new)
+        (F.seen c files.new)) }
 {
     let inputs = read_inputs(alloc, &reads_of_firm(job), files)?;
     let scheduler = SchedulerName::Firm;
@@ -101,7 +103,8 @@ pub(crate) fn texts_of_firm<R: Threads + Sync, F: Files, G: Gate + Sync>(
 
 /// How a check ends.
 pub(crate) fn end_of_check<F: Files>(alloc: Global, job: &CheckJob, files: &mut F) -> Ending
-    ensures meaning { IsEndOf (check (check_words job.now)) (F.told files.old) (F.faults files.old) (F.faults files.new) (F.told files.new) result }
+    ensures meaning { (c : Contents) → IsEndOf (check (check_words job.now)) (held (F.seen c files.old) (F.seen c files.new)) (F.faults files.old)
+        (F.faults files.new) (F.seen c files.new) result }
     ensures no_fault { status_of result ≡ 0 → NoneRose (F.faults files.old) (F.faults files.new) }
     ensures refused { OnlyRose (refused_by result) (F.faults files.old) (F.faults files.new) }
     ensures never_fall { NeverFall (F.faults files.old) (F.faults files.new) }

@@ -1,65 +1,87 @@
+use Rattle.std.proofs.Common.{refl}
+use Rattle.outside.specs.Contents.{Contents}
 use Rattle.outside.proofs.Counting.{NeverFall-trans}
+use Rattle.outside.proofs.Staying.{Stays-refl}
 use Rattle.switch_words.specs.Reading.{run, gen, firm, run_words, firm_words}
 use Rattle.switch_run.specs.MakingSteps.{Makes}
+use Rattle.switch_run.proofs.Held.{held_end, no_files}
 use Rattle.switch_run.proofs.ToWrite.{few_texts, gen_makes}
 use Rattle.switch_run.proofs.command.attempt.Goals as goal
 
 pub end_of_writing-requires : goal.end_of_writing-requires
 end_of_writing-requires g c =
-    few_texts (run (run_words c.in-Run.job)) (g.F.Files.told c.args.files.now) c.texts_of_run.result c.texts_of_run.ensures.made
+    let seen = g.F.Files.seen no_files c.texts_of_run.new.files in
+    few_texts (run (run_words c.in-Run.job)) seen c.texts_of_run.result (c.texts_of_run.ensures.made no_files)
 
 pub returns-in-Run : goal.returns-in-Run
 returns-in-Run g c =
-    let told = g.F.Files.told in
+    let see = g.F.Files.seen in
     let counts = g.F.Files.faults in
     let job = run (run_words c.in-Run.job) in
     let is = c.texts_of_run.ensures in
-    let makes : Makes job (told c.args.files.now) (counts c.args.files.now) (counts c.texts_of_run.new.files) (told c.texts_of_run.new.files)
-    c.texts_of_run.result =
-    record { runs = tt; told_is = is.told; never_fall = is.never_fall; no_fault = is.no_fault; refused = is.refused; texts = is.made; stops = is.stops } in
+    let then = c.end_of_writing.ensures in
+    let was = c.args.files.now in
+    let mid = c.texts_of_run.new.files in
+    let left = c.end_of_writing.new.files in
+    let makes : (d : Contents) → Makes job (see d mid) (counts was) (counts mid) (see d mid) c.texts_of_run.result = λ d.
+    record { runs = tt; told_is = refl; never_fall = is.never_fall; no_fault = is.no_fault; refused = is.refused; texts = is.made d; stops = is.stops d } in
     record {
-      meaning = rw c.in-Run.is (c.end_of_writing.ensures.meaning job (told c.args.files.now) (counts c.args.files.now) makes);
-      no_fault = c.end_of_writing.ensures.no_fault job (told c.args.files.now) (counts c.args.files.now) makes;
-      refused = c.end_of_writing.ensures.refused job (told c.args.files.now) (counts c.args.files.now) makes;
-      never_fall = NeverFall-trans _ _ _ is.never_fall c.end_of_writing.ensures.never_fall;
+      meaning = λ d. rw c.in-Run.is
+          (held_end job (see d was) (see d mid) (see d left) (counts was) (counts left) c.end_of_writing.result tt (is.seen d)
+          (then.meaning d job (see d mid) (counts was) (makes d)));
+      no_fault = then.no_fault no_files job (see no_files mid) (counts was) (makes no_files);
+      refused = then.refused no_files job (see no_files mid) (counts was) (makes no_files);
+      never_fall = NeverFall-trans _ _ _ is.never_fall then.never_fall;
     }
 
 pub end_of_writing-requires-in-Gen : goal.end_of_writing-requires-in-Gen
 end_of_writing-requires-in-Gen g c =
-    let told = g.F.Files.told c.args.files.now in
+    let seen = g.F.Files.seen no_files c.args.files.now in
     let counts = g.F.Files.faults c.args.files.now in
-    few_texts (gen c.in-Gen.job) told c.texts_of_gen.result
-    (gen_makes c.in-Gen.job told counts c.texts_of_gen.result c.texts_of_gen.ensures.made c.texts_of_gen.ensures.stops).texts
+    few_texts (gen c.in-Gen.job) seen c.texts_of_gen.result
+    (gen_makes c.in-Gen.job seen counts c.texts_of_gen.result c.texts_of_gen.ensures.made c.texts_of_gen.ensures.stops).texts
 
 pub returns-in-Gen : goal.returns-in-Gen
 returns-in-Gen g c =
-    let told = g.F.Files.told c.args.files.now in
-    let counts = g.F.Files.faults c.args.files.now in
-    let makes = gen_makes c.in-Gen.job told counts c.texts_of_gen.result c.texts_of_gen.ensures.made c.texts_of_gen.ensures.stops in
-    let is = c.end_of_writing-in-Gen.ensures in
+    let see = g.F.Files.seen in
+    let counts = g.F.Files.faults in
+    let job = gen c.in-Gen.job in
+    let then = c.end_of_writing-in-Gen.ensures in
+    let was = c.args.files.now in
+    let left = c.end_of_writing-in-Gen.new.files in
+    let makes : (d : Contents) → Makes job (see d was) (counts was) (counts was) (see d was) c.texts_of_gen.result = λ d.
+    gen_makes c.in-Gen.job (see d was) (counts was) c.texts_of_gen.result c.texts_of_gen.ensures.made c.texts_of_gen.ensures.stops in
     record {
-      meaning = rw c.in-Gen.is (is.meaning (gen c.in-Gen.job) told counts makes);
-      no_fault = is.no_fault (gen c.in-Gen.job) told counts makes;
-      refused = is.refused (gen c.in-Gen.job) told counts makes;
-      never_fall = is.never_fall;
+      meaning = λ d. rw c.in-Gen.is
+          (held_end job (see d was) (see d was) (see d left) (counts was) (counts left) c.end_of_writing-in-Gen.result tt (Stays-refl (see d was))
+          (then.meaning d job (see d was) (counts was) (makes d)));
+      no_fault = then.no_fault no_files job (see no_files was) (counts was) (makes no_files);
+      refused = then.refused no_files job (see no_files was) (counts was) (makes no_files);
+      never_fall = then.never_fall;
     }
 
 pub end_of_writing-requires-in-Firm : goal.end_of_writing-requires-in-Firm
 end_of_writing-requires-in-Firm g c =
-    few_texts (firm (firm_words c.in-Firm.job)) (g.F.Files.told c.args.files.now) c.texts_of_firm.result c.texts_of_firm.ensures.made
+    let seen = g.F.Files.seen no_files c.texts_of_firm.new.files in
+    few_texts (firm (firm_words c.in-Firm.job)) seen c.texts_of_firm.result (c.texts_of_firm.ensures.made no_files)
 
 pub returns-in-Firm : goal.returns-in-Firm
 returns-in-Firm g c =
-    let told = g.F.Files.told in
+    let see = g.F.Files.seen in
     let counts = g.F.Files.faults in
     let job = firm (firm_words c.in-Firm.job) in
     let is = c.texts_of_firm.ensures in
-    let makes : Makes job (told c.args.files.now) (counts c.args.files.now) (counts c.texts_of_firm.new.files) (told c.texts_of_firm.new.files)
-    c.texts_of_firm.result =
-    record { runs = tt; told_is = is.told; never_fall = is.never_fall; no_fault = is.no_fault; refused = is.refused; texts = is.made; stops = is.stops } in
+    let then = c.end_of_writing-in-Firm.ensures in
+    let was = c.args.files.now in
+    let mid = c.texts_of_firm.new.files in
+    let left = c.end_of_writing-in-Firm.new.files in
+    let makes : (d : Contents) → Makes job (see d mid) (counts was) (counts mid) (see d mid) c.texts_of_firm.result = λ d.
+    record { runs = tt; told_is = refl; never_fall = is.never_fall; no_fault = is.no_fault; refused = is.refused; texts = is.made d; stops = is.stops d } in
     record {
-      meaning = rw c.in-Firm.is (c.end_of_writing-in-Firm.ensures.meaning job (told c.args.files.now) (counts c.args.files.now) makes);
-      no_fault = c.end_of_writing-in-Firm.ensures.no_fault job (told c.args.files.now) (counts c.args.files.now) makes;
-      refused = c.end_of_writing-in-Firm.ensures.refused job (told c.args.files.now) (counts c.args.files.now) makes;
-      never_fall = NeverFall-trans _ _ _ is.never_fall c.end_of_writing-in-Firm.ensures.never_fall;
+      meaning = λ d. rw c.in-Firm.is
+          (held_end job (see d was) (see d mid) (see d left) (counts was) (counts left) c.end_of_writing-in-Firm.result tt (is.seen d)
+          (then.meaning d job (see d mid) (counts was) (makes d)));
+      no_fault = then.no_fault no_files job (see no_files mid) (counts was) (makes no_files);
+      refused = then.refused no_files job (see no_files mid) (counts was) (makes no_files);
+      never_fall = NeverFall-trans _ _ _ is.never_fall then.never_fall;
     }

@@ -1,14 +1,20 @@
 use Rattle.std.proofs.Common.{refl, ◌∙◌}
 use Rattle.switch_words.specs.Reading.{job_words}
 use Rattle.job_files.proofs.RefusedCalls.{refused_calls_end}
+use Rattle.switch_run.proofs.Held.{held_before_line}
 use Rattle.switch_run.proofs.Stopping.{ended}
 use Rattle.switch_run.proofs.command.run.Goals as goal
 
 pub returns-clause-meaning : goal.returns-clause-meaning
-returns-clause-meaning g c named =
+returns-clause-meaning g c d named =
+    let see = g.F.Files.seen d in
     let counts = g.F.Files.faults in
-    ended _ (job_words c.args.job.now) (g.F.Files.told c.attempt-ending.new.files) (counts c.attempt-ending.new.files) c.attempt-ending.result refl
-    c.attempt-ending.ensures.never_fall c.print_line.ensures.never_fall c.attempt-ending.ensures.meaning c.print_line.ensures.line
+    let job = job_words c.args.job.now in
+    let mid = c.attempt-ending.new.files in
+    let line = c.print_line.ensures.line d in
+    let is = held_before_line job _ (see c.args.files.now) (see mid) (see c.print_line.new.files) (counts c.args.files.now) (counts mid) _ _
+    c.attempt-ending.result line (c.attempt-ending.ensures.meaning d) in
+    ended _ job (see mid) (counts mid) c.attempt-ending.result refl c.attempt-ending.ensures.never_fall c.print_line.ensures.never_fall is line
 
 pub returns-clause-no_fault : goal.returns-clause-no_fault
 returns-clause-no_fault g c same p = c.print_line.ensures.no_fault same p ∙ c.attempt-ending.ensures.no_fault same p

@@ -1,5 +1,6 @@
 use Rattle.std.proofs.Common.{ap, map, string_bytes, sym, ◌∙◌}
 use Rattle.std.specs.Prelude.{Ok}
+use Rattle.outside.specs.Contents.{held}
 use Rattle.named_schedulers.specs.Named.{decision_named}
 use Rattle.switch_run.specs.Causes.{Answers, scheduler_in}
 use Rattle.switch_run.specs.Endings.{Command, command_of}
@@ -13,15 +14,15 @@ use Rattle.switch_run.proofs.DoneRuns.{has_run}
 use Rattle.switch_run.proofs.command.switch_main.Goals as goal
 
 pub returns : goal.returns
-returns g c =
+returns g c d =
     let counts = g.F.Files.faults in
-    let contents = g.F.Files.told in
+    let see = g.F.Files.seen d in
     let files = c.args.files.now in
     let left = c.end_of.new.files in
-    let command : Command = command_of (map string_bytes c.args.words.now) (contents files) (contents left) (counts files) (counts left) in
+    let command : Command = command_of (map string_bytes c.args.words.now) (held (see files) (see left)) (see left) (counts files) (counts left) in
     let ending = c.end_of.result in
     let status = c.status.result in
-    let answers : Answers command status ending = (c.status.ensures, c.end_of.ensures.meaning) in
+    let answers : Answers command status ending = (c.status.ensures, c.end_of.ensures.meaning d) in
     record {
       meaning = (ending, answers);
       never_fall = c.end_of.ensures.never_fall;

@@ -4,10 +4,10 @@ use Rattle.switch_run.proofs.Checking.{check_is_yes}
 use Rattle.switch_run.proofs.job_texts.end_of_check.Goals as goal
 
 pub returns-in_default-clause-meaning : goal.returns-in_default-clause-meaning
-returns-in_default-clause-meaning g c = record {
+returns-in_default-clause-meaning g c d = record {
   words = check_words c.args.job.now;
   is_check = refl;
-  means = rw c.as_str.ensures.value at c.check_file.ensures.meaning;
+  means = rw c.as_str.ensures.value at c.check_file.ensures.meaning d;
 }
 
 pub returns-in_default-clause-no_fault : goal.returns-in_default-clause-no_fault

@@ -10,9 +10,9 @@ use Rattle.switch_run.proofs.job_texts.texts_of_run.Goals as goal
 
 pub plan_and_run-requires-clause-size : goal.plan_and_run-requires-clause-size
 plan_and_run-requires-clause-size g c κs alive =
-    let read = rw c.reads_of_run.ensures.names at c.in_ok-inputs.ensures.read in
     let names = c.args.job.now.inputs.items in
-    read_of_size (run_reads (run_words c.args.job.now)) (g.F.Files.told c.args.files.now) _ _ read
+    read_of_size (run_reads (run_words c.args.job.now)) (λ d. g.F.Files.seen d c.read_inputs.new.files) _ _
+    (λ d. rw c.reads_of_run.ensures.names at c.in_ok-inputs.ensures.read d)
     (record {
       some = omega (arith, length-map names string_bytes, c.requires.inputs.some);
       most = omega (arith, length-map names string_bytes, c.requires.inputs.most);
@@ -22,32 +22,31 @@ pub plan_and_run-requires-clause-journal : goal.plan_and_run-requires-clause-jou
 plan_and_run-requires-clause-journal g c κs alive long = rw c.wanted_by.ensures (c.requires.journal long)
 
 pub returns-in_err-inputs-clause-stops : goal.returns-in_err-inputs-clause-stops
-returns-in_err-inputs-clause-stops g c =
-    let contents = g.F.Files.told in
+returns-in_err-inputs-clause-stops g c d =
+    let seen = g.F.Files.seen d c.read_inputs.new.files in
     let counts = g.F.Files.faults in
     let words = run_words c.args.job.now in
-    let stops = rw c.reads_of_run.ensures.names at c.in_err-inputs.ensures.stops in
+    let stops = rw c.reads_of_run.ensures.names at c.in_err-inputs.ensures.stops d in
     let failed = err_from_is_err_and c.from_residual.result c.from_residual.ensures.1 in
     rw (failed.1, failed.2)
-    (reading_stops (run words) (run_reads words) (contents c.args.files.now) (contents c.read_inputs.new.files) (counts c.args.files.now)
-    (counts c.read_inputs.new.files) c.in_err-inputs.field-0.0 refl c.in_err-inputs.ensures.told stops)
+    (reading_stops (run words) (run_reads words) seen seen (counts c.args.files.now) (counts c.read_inputs.new.files) c.in_err-inputs.field-0.0 refl refl
+    stops)
 
 pub returns-in_err-ran-clause-stops : goal.returns-in_err-ran-clause-stops
-returns-in_err-ran-clause-stops g c =
-    let contents = g.F.Files.told in
+returns-in_err-ran-clause-stops g c d =
+    let seen = g.F.Files.seen d c.read_inputs.new.files in
     let counts = g.F.Files.faults in
-    let read = rw c.reads_of_run.ensures.names at c.in_ok-inputs.ensures.read in
+    let read = rw c.reads_of_run.ensures.names at c.in_ok-inputs.ensures.read d in
     let stops = rw c.wanted_by.ensures at c.in_err-ran.ensures.stops in
     let failed = err_from_is_err_and c.from_residual-in_err-ran.result c.from_residual-in_err-ran.ensures.1 in
     rw (failed.1, failed.2)
-    (texts_stop (run_words c.args.job.now) (contents c.args.files.now) (contents c.read_inputs.new.files) (counts c.args.files.now)
-    (counts c.read_inputs.new.files) _ _ c.in_err-ran.field-0.0 c.in_ok-inputs.ensures.told read stops)
+    (texts_stop (run_words c.args.job.now) seen seen (counts c.args.files.now) (counts c.read_inputs.new.files) _ _ c.in_err-ran.field-0.0 refl read stops)
 
 pub returns-clause-made : goal.returns-clause-made
-returns-clause-made g c =
+returns-clause-made g c d =
     let inputs = c.in_ok-inputs.inputs in
     let files = bytes_of_files inputs.captures in
-    let read = rw c.reads_of_run.ensures.names at c.in_ok-inputs.ensures.read in
+    let read = rw c.reads_of_run.ensures.names at c.in_ok-inputs.ensures.read d in
     let names = c.args.job.now.inputs.items in
     let ran = rw c.wanted_by.ensures at c.in_ok-ran.ensures.ran in
     record {
