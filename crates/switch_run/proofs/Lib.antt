@@ -16,3 +16,4 @@ pub mod Bounds
 pub mod MadeInputs
 pub mod DoneRuns
 pub mod Held
+pub mod OwnFiles

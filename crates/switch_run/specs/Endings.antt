@@ -1,5 +1,7 @@
 -- How a command ends, and what each ending means.
-use Rattle.std.specs.Prelude.{◌≡◌, ◌<◌, ◌+◌, ℕ, Bool, true, is_some, List, take, length, Option, Some, None, Ok, Err, option_map, IfSome, slice_index_or}
+use Rattle.std.specs.Prelude.{◌≡◌, ◌<◌, ◌+◌, ◌||◌, ℕ, Bool, true, false, is_some, List, take, length, bytes_eq, Option, Some, None, Ok, Err, option_map}
+use Rattle.std.specs.Prelude.{IfSome, slice_index_or}
+use Rattle.std.specs.List.{list_any}
 use Rattle.outside.specs.Contents.{Contents, append_out}
 use Rattle.outside.specs.Faults.{Place, ReadOf, ToOut, ToErr, Rose}
 use Rattle.outside.specs.WholeFiles.{StopsAt}
@@ -36,6 +38,14 @@ pub record Command : Type 0 where
 -- the command of these words
 abbrev pub command_of : List (List ℕ) → Option Contents → Option Contents → (Place → ℕ) → (Place → ℕ) → Command
 command_of words old new was now = record { named = is_some (command_in words); job = reading_of words; old = old; new = new; was = was; now = now }
+
+-- whether the job reads the file of this name: its table, the capture of a port, or the file that it checks; without a job none is read
+abbrev pub is_own : Option JobWords → List ℕ → Bool
+is_own None name = false
+is_own (Some (run r)) name = bytes_eq name r.table || list_any (bytes_eq name) r.inputs
+is_own (Some (gen g)) name = false
+is_own (Some (check c)) name = bytes_eq name c.file
+is_own (Some (firm f)) name = bytes_eq name f.table || list_any (bytes_eq name) f.inputs
 
 -- A read of this file was refused. The files before it are there, and not too long.
 pub record IsReadFault (job : JobWords) (told : Option Contents) (was now : Place → ℕ) (input : InputFile) : Type 0 where

@@ -1,10 +1,10 @@
-ghost use Rattle.std.specs.Prelude.{◌≡◌, ℕ, Option, IfErr, IfOk, OnOk};
-ghost use Rattle.outside.specs.Contents.{Contents, Stays, held};
+ghost use Rattle.std.specs.Prelude.{◌≡◌, ℕ, Option, Some, IfErr, IfOk, OnOk};
+ghost use Rattle.outside.specs.Contents.{AreAlike, Contents, Stays, held};
 ghost use Rattle.outside.specs.Faults.{NeverFall, NoneRose, OnlyRose, Place};
 ghost use Rattle.job_files.specs.Statuses.{refused_by, status_of};
 ghost use Rattle.switch_words.specs.Limits.{IsFirmWithinLimits, IsGenWithinLimits, IsRunWithinLimits};
 ghost use Rattle.switch_words.specs.Reading.{run, gen, check, firm, run_words, check_words, firm_words};
-ghost use Rattle.switch_run.specs.Endings.{Stops};
+ghost use Rattle.switch_run.specs.Endings.{Stops, is_own};
 ghost use Rattle.switch_run.specs.MakingSteps.{AreToWrite, IsEndOf, to_write};
 ghost use Rattle.switch_run.specs.Switched.{wanted_by};
 
@@ -44,6 +44,8 @@ pub(crate) fn texts_of_run<R: Threads + Sync, F: Files, G: Gate + Sync>(
 ) -> Result<JobTexts<PacketPieces>, Ending>
     requires { IsRunWithinLimits job.now }
     ensures seen { (c : Contents) → Stays (F.seen c files.old) (F.seen c files.new) }
+    ensures own { (c d : Contents) → AreAlike (is_own (Some (run (run_words job.now)))) (F.seen c files.old) (F.seen d files.old)
+        → AreAlike (is_own (Some (run (run_words job.now)))) (F.seen c files.new) (F.seen d files.new) }
     ensures no_fault { OnOk result (NoneRose (F.faults files.old) (F.faults files.new)) }
     ensures refused { IfErr result (λ ending. OnlyRose (refused_by ending) (F.faults files.old) (F.faults files.new)) }
     ensures never_fall { NeverFall (F.faults files.old) (F.faults files.new) }
@@ -88,6 +90,8 @@ pub(crate) fn texts_of_firm<R: Threads + Sync, F: Files, G: Gate + Sync>(
 ) -> Result<JobTexts<PacketPieces>, Ending>
     requires { IsFirmWithinLimits job.now }
     ensures seen { (c : Contents) → Stays (F.seen c files.old) (F.seen c files.new) }
+    ensures own { (c d : Contents) → AreAlike (is_own (Some (firm (firm_words job.now)))) (F.seen c files.old) (F.seen d files.old)
+        → AreAlike (is_own (Some (firm (firm_words job.now)))) (F.seen c files.new) (F.seen d files.new) }
     ensures no_fault { OnOk result (NoneRose (F.faults files.old) (F.faults files.new)) }
     ensures refused { IfErr result (λ ending. OnlyRose (refused_by ending) (F.faults files.old) (F.faults files.new)) }
     ensures never_fall { NeverFall (F.faults files.old) (F.faults files.new) }
@@ -105,6 +109,8 @@ pub(crate) fn texts_of_firm<R: Threads + Sync, F: Files, G: Gate + Sync>(
 pub(crate) fn end_of_check<F: Files>(alloc: Global, job: &CheckJob, files: &mut F) -> Ending
     ensures meaning { (c : Contents) → IsEndOf (check (check_words job.now)) (held (F.seen c files.old) (F.seen c files.new)) (F.faults files.old)
         (F.faults files.new) (F.seen c files.new) result }
+    ensures own { (c d : Contents) → AreAlike (is_own (Some (check (check_words job.now)))) (F.seen c files.old) (F.seen d files.old)
+        → AreAlike (is_own (Some (check (check_words job.now)))) (F.seen c files.new) (F.seen d files.new) }
     ensures no_fault { status_of result ≡ 0 → NoneRose (F.faults files.old) (F.faults files.new) }
     ensures refused { OnlyRose (refused_by result) (F.faults files.old) (F.faults files.new) }
     ensures never_fall { NeverFall (F.faults files.old) (F.faults files.new) }

@@ -1,8 +1,9 @@
-use Rattle.std.proofs.Common.{refl}
+use Rattle.std.proofs.Common.{Some, refl}
 use Rattle.outside.specs.Contents.{Contents}
 use Rattle.outside.proofs.Counting.{NeverFall-trans}
 use Rattle.outside.proofs.Staying.{Stays-refl}
 use Rattle.switch_words.specs.Reading.{run, gen, firm, run_words, firm_words}
+use Rattle.switch_run.specs.Endings.{is_own}
 use Rattle.switch_run.specs.MakingSteps.{Makes}
 use Rattle.switch_run.proofs.Held.{held_end, no_files}
 use Rattle.switch_run.proofs.ToWrite.{few_texts, gen_makes}
@@ -29,6 +30,7 @@ returns-in-Run g c =
       meaning = λ d. rw c.in-Run.is
           (held_end job (see d was) (see d mid) (see d left) (counts was) (counts left) c.end_of_writing.result tt (is.seen d)
           (then.meaning d job (see d mid) (counts was) (makes d)));
+      own = λ d e. rw c.in-Run.is (λ alike. then.own (is_own (Some job)) d e (is.own d e alike));
       no_fault = then.no_fault no_files job (see no_files mid) (counts was) (makes no_files);
       refused = then.refused no_files job (see no_files mid) (counts was) (makes no_files);
       never_fall = NeverFall-trans _ _ _ is.never_fall then.never_fall;
@@ -55,10 +57,17 @@ returns-in-Gen g c =
       meaning = λ d. rw c.in-Gen.is
           (held_end job (see d was) (see d was) (see d left) (counts was) (counts left) c.end_of_writing-in-Gen.result tt (Stays-refl (see d was))
           (then.meaning d job (see d was) (counts was) (makes d)));
+      own = λ d e. rw c.in-Gen.is (λ alike. then.own (is_own (Some job)) d e alike);
       no_fault = then.no_fault no_files job (see no_files was) (counts was) (makes no_files);
       refused = then.refused no_files job (see no_files was) (counts was) (makes no_files);
       never_fall = then.never_fall;
     }
+
+pub returns-in-Check-clause-meaning : goal.returns-in-Check-clause-meaning
+returns-in-Check-clause-meaning g c d = rw c.in-Check.is (c.end_of_check.ensures.meaning d)
+
+pub returns-in-Check-clause-own : goal.returns-in-Check-clause-own
+returns-in-Check-clause-own g c d e = rw c.in-Check.is (c.end_of_check.ensures.own d e)
 
 pub end_of_writing-requires-in-Firm : goal.end_of_writing-requires-in-Firm
 end_of_writing-requires-in-Firm g c =
@@ -81,6 +90,7 @@ returns-in-Firm g c =
       meaning = λ d. rw c.in-Firm.is
           (held_end job (see d was) (see d mid) (see d left) (counts was) (counts left) c.end_of_writing-in-Firm.result tt (is.seen d)
           (then.meaning d job (see d mid) (counts was) (makes d)));
+      own = λ d e. rw c.in-Firm.is (λ alike. then.own (is_own (Some job)) d e (is.own d e alike));
       no_fault = then.no_fault no_files job (see no_files mid) (counts was) (makes no_files);
       refused = then.refused no_files job (see no_files mid) (counts was) (makes no_files);
       never_fall = NeverFall-trans _ _ _ is.never_fall then.never_fall;

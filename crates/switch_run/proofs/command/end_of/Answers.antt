@@ -19,3 +19,6 @@ returns-in-Ok-clause-meaning g c d =
       was = counts c.args.files.now;
       now = counts c.run.new.files;
     }) c.run.result) (sym c.in-Ok.ensures.job) (c.run.ensures.meaning d named)
+
+pub returns-in-Ok-clause-own : goal.returns-in-Ok-clause-own
+returns-in-Ok-clause-own g c d e = rw (sym c.in-Ok.ensures.job) at (c.run.ensures.own d e)

@@ -52,3 +52,12 @@ returns-clause-no_fault g c d job old was makes zero =
 
 pub returns-clause-refused : goal.returns-clause-refused
 returns-clause-refused g c d job old was makes = rw c.in-Err.is at makes.refused
+
+pub returns-in-Ok-put_texts-clause-own : goal.returns-in-Ok-put_texts-clause-own
+returns-in-Ok-put_texts-clause-own g c named d e alike = c.put_texts.ensures.own named d e alike
+
+pub returns-in-Ok-clause-own : goal.returns-in-Ok-clause-own
+returns-in-Ok-clause-own g c named d e alike = c.put_texts.ensures.own named d e alike
+
+pub returns-clause-own : goal.returns-clause-own
+returns-clause-own g c named d e alike = alike

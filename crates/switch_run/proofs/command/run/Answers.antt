@@ -1,6 +1,7 @@
-use Rattle.std.proofs.Common.{refl, ◌∙◌}
+use Rattle.std.proofs.Common.{Some, refl, ◌∙◌}
 use Rattle.switch_words.specs.Reading.{job_words}
 use Rattle.job_files.proofs.RefusedCalls.{refused_calls_end}
+use Rattle.switch_run.specs.Endings.{is_own}
 use Rattle.switch_run.proofs.Held.{held_before_line}
 use Rattle.switch_run.proofs.Stopping.{ended}
 use Rattle.switch_run.proofs.command.run.Goals as goal
@@ -21,3 +22,7 @@ returns-clause-no_fault g c same p = c.print_line.ensures.no_fault same p ∙ c.
 
 pub returns-clause-refused : goal.returns-clause-refused
 returns-clause-refused g c = refused_calls_end c.attempt-ending.result _ _ _ c.attempt-ending.ensures.refused c.print_line.ensures.no_others
+
+pub returns-clause-own : goal.returns-clause-own
+returns-clause-own g c d e alike =
+    c.print_line.ensures.own (is_own (Some (job_words c.args.job.now))) d e (c.attempt-ending.ensures.own d e alike)

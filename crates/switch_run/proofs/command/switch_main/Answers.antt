@@ -13,8 +13,8 @@ use Rattle.switch_run.proofs.MadeInputs.{gen_exact}
 use Rattle.switch_run.proofs.DoneRuns.{has_run}
 use Rattle.switch_run.proofs.command.switch_main.Goals as goal
 
-pub returns : goal.returns
-returns g c d =
+pub returns-clause-theorem : goal.returns-clause-theorem
+returns-clause-theorem g c d =
     let counts = g.F.Files.faults in
     let see = g.F.Files.seen d in
     let files = c.args.files.now in
@@ -74,3 +74,6 @@ returns g c d =
           };
       firm_runs = λ plan slots is. c.runs_are_as_promised.ensures plan slots is.planned.good is.ends;
     }
+
+pub returns-clause-own : goal.returns-clause-own
+returns-clause-own g c d e alike = c.end_of.ensures.own d e alike

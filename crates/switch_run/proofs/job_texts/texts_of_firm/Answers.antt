@@ -1,12 +1,14 @@
-use Rattle.std.proofs.Common.{arith, refl, string_bytes}
+use Rattle.std.proofs.Common.{Some, arith, refl, string_bytes}
 use Rattle.std.proofs.lemmas.List.{length-map}
 use Rattle.switch_plan.specs.ReadingSteps.{bytes_of_files}
 use Rattle.switch_words.specs.Reading.{firm, firm_words}
 use Rattle.job_files.specs.Jobs.{firm_reads}
 use Rattle.job_files.proofs.InputFiles.{read_of_size}
+use Rattle.switch_run.specs.Endings.{is_own}
 use Rattle.switch_run.specs.MakingSteps.{to_write}
 use Rattle.std.proofs.lemmas.Result.{err_from_is_err_and}
 use Rattle.switch_run.proofs.RunTexts.{firm_made}
+use Rattle.switch_run.proofs.OwnFiles.{firm_owns}
 use Rattle.switch_run.proofs.Stopping.{plan_stops, reading_stops}
 use Rattle.switch_run.proofs.job_texts.texts_of_firm.Goals as goal
 
@@ -57,3 +59,23 @@ returns-clause-made g c d =
           (to_write texts) c.in_ok-summary.ensures.ran
           c.in_ok-summary_alone.ensures.files c.in_ok-summary_alone.ensures.summary;
     }
+
+pub returns-in_err-inputs-clause-own : goal.returns-in_err-inputs-clause-own
+returns-in_err-inputs-clause-own g c d e alike =
+    let words = firm_words c.args.job.now in
+    c.read_inputs.ensures.own (is_own (Some (firm words))) d e (firm_owns words _ c.reads_of_firm.ensures.names) alike
+
+pub returns-in_err-summary-clause-own : goal.returns-in_err-summary-clause-own
+returns-in_err-summary-clause-own g c d e alike =
+    let words = firm_words c.args.job.now in
+    c.read_inputs.ensures.own (is_own (Some (firm words))) d e (firm_owns words _ c.reads_of_firm.ensures.names) alike
+
+pub returns-in_err-summary_alone-clause-own : goal.returns-in_err-summary_alone-clause-own
+returns-in_err-summary_alone-clause-own g c d e alike =
+    let words = firm_words c.args.job.now in
+    c.read_inputs.ensures.own (is_own (Some (firm words))) d e (firm_owns words _ c.reads_of_firm.ensures.names) alike
+
+pub returns-clause-own : goal.returns-clause-own
+returns-clause-own g c d e alike =
+    let words = firm_words c.args.job.now in
+    c.read_inputs.ensures.own (is_own (Some (firm words))) d e (firm_owns words _ c.reads_of_firm.ensures.names) alike

@@ -1,10 +1,12 @@
-use Rattle.std.proofs.Common.{arith, refl, string_bytes}
+use Rattle.std.proofs.Common.{Some, arith, refl, string_bytes}
 use Rattle.std.proofs.lemmas.List.{length-map}
 use Rattle.switch_plan.specs.ReadingSteps.{bytes_of_files}
 use Rattle.switch_words.specs.Reading.{run, run_words}
 use Rattle.job_files.specs.Jobs.{run_reads}
 use Rattle.job_files.proofs.InputFiles.{read_of_size}
 use Rattle.std.proofs.lemmas.Result.{err_from_is_err_and}
+use Rattle.switch_run.specs.Endings.{is_own}
+use Rattle.switch_run.proofs.OwnFiles.{run_owns}
 use Rattle.switch_run.proofs.Stopping.{reading_stops, texts_stop}
 use Rattle.switch_run.proofs.job_texts.texts_of_run.Goals as goal
 
@@ -56,3 +58,23 @@ returns-clause-made g c d =
       few = omega (arith, read.captures_read.count, length-map names string_bytes, c.requires.inputs.most);
       made = c.in_ok-run_texts.ensures inputs.table.items files ran;
     }
+
+pub returns-in_err-inputs-clause-own : goal.returns-in_err-inputs-clause-own
+returns-in_err-inputs-clause-own g c d e alike =
+    let words = run_words c.args.job.now in
+    c.read_inputs.ensures.own (is_own (Some (run words))) d e (run_owns words _ c.reads_of_run.ensures.names) alike
+
+pub returns-in_err-ran-clause-own : goal.returns-in_err-ran-clause-own
+returns-in_err-ran-clause-own g c d e alike =
+    let words = run_words c.args.job.now in
+    c.read_inputs.ensures.own (is_own (Some (run words))) d e (run_owns words _ c.reads_of_run.ensures.names) alike
+
+pub returns-in_err-run_texts-clause-own : goal.returns-in_err-run_texts-clause-own
+returns-in_err-run_texts-clause-own g c d e alike =
+    let words = run_words c.args.job.now in
+    c.read_inputs.ensures.own (is_own (Some (run words))) d e (run_owns words _ c.reads_of_run.ensures.names) alike
+
+pub returns-clause-own : goal.returns-clause-own
+returns-clause-own g c d e alike =
+    let words = run_words c.args.job.now in
+    c.read_inputs.ensures.own (is_own (Some (run words))) d e (run_owns words _ c.reads_of_run.ensures.names) alike
