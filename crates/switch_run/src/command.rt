@@ -195,6 +195,7 @@ fn end_of<R: Threads + Sync, F: Files, G: Gate + Sync>(
 /// of that is refused, the rest of the line is left out, and the status stays.
 ///
 /// What files hold stands for any contents that agree with what reads gave; so this speaks of a disk too.
+/// No file is read but those that the job names.
 pub fn switch_main<R: Threads + Sync, F: Files, G: Gate + Sync>(
     rt: &R,
     alloc: Global,
