@@ -42,31 +42,36 @@ def needs_line(why):
 def run(program, words, clock=None):
     """The program's status, negative where a signal ended it, and what it said on standard error. A clock is told each second
     in which it says nothing."""
+    # Where its output and the clock's line go to one terminal, that line goes before the output comes.
+    output = subprocess.PIPE if clock and os.isatty(1) else None
     # A name as /dev/fd/63 stands for a file that the shell has opened, so open files are passed on.
-    ran = subprocess.Popen([program, *words], stderr=subprocess.PIPE, close_fds=False, env=environment())
+    ran = subprocess.Popen([program, *words], stdout=output, stderr=subprocess.PIPE, close_fds=False, env=environment())
     signal.signal(signal.SIGINT, signal.SIG_IGN)  # It goes to the program too, which ends.
     for number in HANDED_ON:
         signal.signal(number, lambda it, _: ran.send_signal(it))
     said = b""
-    for piece in _pieces(ran, clock):
-        said = (said + piece)[:KEPT]
-        write_all(2, piece)
+    for stream, piece in _pieces(ran, clock):
+        if stream == 2:
+            said = (said + piece)[:KEPT]
+        write_all(stream, piece)
     return ran.wait(), said.decode(errors="surrogateescape")
 
 
 def _pieces(ran, clock):
-    """What a program says on standard error, as it comes."""
-    stream = ran.stderr.fileno()
-    while True:
-        if clock and not select.select([stream], [], [], 1)[0]:
+    """What a program says on the streams that are read here, as it comes, behind the number of the stream."""
+    open_ones = {pipe.fileno(): number for number, pipe in ((1, ran.stdout), (2, ran.stderr)) if pipe}
+    while open_ones:
+        ready = select.select(list(open_ones), [], [], 1 if clock else None)[0]
+        if not ready:
             clock.second(ran.pid)
-            continue
-        piece = os.read(stream, KEPT)
-        if clock:
-            clock.clear()
-        if not piece:
-            return
-        yield piece
+        for pipe in ready:
+            piece = os.read(pipe, KEPT)
+            if clock:
+                clock.clear()
+            if piece:
+                yield open_ones[pipe], piece
+            else:
+                del open_ones[pipe]
 
 
 def end_as(status):

@@ -25,6 +25,8 @@ tail -c +5 "$3" >"$4"
 """
 NEXT = b"\x0a\x0d\x0d\x0a"
 CLASSIC = capture(frame())
+# Two seconds of a run or more, on a busy machine some before all is read; then the line goes.
+SECONDS_SHOWN = rb"(\r\x1b\[K\d+ s: \d of 4 MB read, \d MB written)+\r\x1b\[K\d+ s: 4 of 4 MB read, 4 MB written\r\x1b\[K"
 
 
 def next_generation(order, resolution):
@@ -130,18 +132,29 @@ class Convert(Scene):
 
 
 class Shown(Scene):
-    def test_terminal(self):
-        """Each second of a run a line of the terminal has what was read and written; what the program writes is the same."""
+    def run_on_terminal(self, **streams):
+        """Runs some seconds with what is shown going to a terminal; the words that end it, and what the terminal had."""
         self.build()
         self.files(table_txt="* 0\n", a_pcap=bytes(4_000_000))
         ours, theirs = pty.openpty()
         self.addCleanup(os.close, ours)
         words = [self.top / "tiny_tera", "run", "table.txt", "out", "a.pcap"]
         variables = {**self.variables, "CODE": "cat a.pcap >b.pcap; sleep 2.5"}
-        ran = subprocess.run(words, cwd=self.jobs, env=variables, stdout=subprocess.PIPE, stderr=theirs)
+        ran = subprocess.run(words, cwd=self.jobs, env=variables, stderr=theirs, **{"stdout": theirs, **streams})
         os.close(theirs)
-        self.assertEqual((ran.returncode, ran.stdout), (0, b"summary\n"))
-        self.assertRegex(os.read(ours, 4096), rb"\r\x1b\[K1 s: 4 of 4 MB read, 4 MB written\r\x1b\[K2 s: .*\r\x1b\[K$")
+        self.assertEqual(ran.returncode, 0)
+        return ran, os.read(ours, 4096)
+
+    def test_terminal(self):
+        """Each second of a run a line of the terminal has what was read and written; what the program writes is the same."""
+        ran, shown = self.run_on_terminal(stdout=subprocess.PIPE)
+        self.assertEqual(ran.stdout, b"summary\n")
+        self.assertRegex(shown, SECONDS_SHOWN + rb"$")
+
+    def test_terminal_with_the_output(self):
+        """Where the summary comes to the same terminal, the line goes first."""
+        shown = self.run_on_terminal()[1]
+        self.assertRegex(shown, SECONDS_SHOWN + rb"summary\r\n$")
 
     def test_bytes(self):
         moved = bytes_of(os.getpid())
