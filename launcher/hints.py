@@ -3,6 +3,7 @@
 import errno
 import os
 import re
+import resource
 
 from . import capture_hints, table_hints
 from .journal_hints import on_journal
@@ -61,15 +62,21 @@ def _on_read(job, name):
 
 
 def _on_write(job, name):
-    why = fault_of_path(name, True)
-    if why is None:
-        folder = os.path.dirname(name) or "."
-        try:
-            is_full = os.statvfs(folder).f_bavail == 0
-        except OSError as fault:
-            is_full = fault.errno == errno.ENOSPC
-        why = f"the disk of {folder} is full" if is_full else None
+    why = fault_of_path(name, True) or _fault_of_room(name)
     return f"{why}; PREFIX is {job.prefix}" if why else None
+
+
+def _fault_of_room(name):
+    """That there is no room for more bytes of a file, None where none is seen."""
+    folder = os.path.dirname(name) or "."
+    most = resource.getrlimit(resource.RLIMIT_FSIZE)[0]
+    try:
+        if most != resource.RLIM_INFINITY and os.path.getsize(name) >= most:
+            return f"no file may have more than {most:,} bytes here (ulimit -f)"
+        is_full = os.statvfs(folder).f_bavail == 0
+    except OSError as fault:
+        is_full = fault.errno == errno.ENOSPC
+    return f"the disk of {folder} is full" if is_full else None
 
 
 def _on_standard_output(job):

@@ -44,8 +44,11 @@ def run(program, words, clock=None):
     in which it says nothing."""
     # Where its output and the clock's line go to one terminal, that line goes before the output comes.
     output = subprocess.PIPE if clock and os.isatty(1) else None
-    # A name as /dev/fd/63 stands for a file that the shell has opened, so open files are passed on.
-    ran = subprocess.Popen([program, *words], stdout=output, stderr=subprocess.PIPE, close_fds=False, env=environment())
+    # A name as /dev/fd/63 stands for a file that the shell has opened, so open files are passed on. Python ignores the signal
+    # of a file that would be longer than the user's limit, and so does the program: a write is told instead.
+    ran = subprocess.Popen(
+        [program, *words], stdout=output, stderr=subprocess.PIPE, close_fds=False, restore_signals=False, env=environment(),
+    )
     signal.signal(signal.SIGINT, signal.SIG_IGN)  # It goes to the program too, which ends.
     for number in HANDED_ON:
         signal.signal(number, lambda it, _: ran.send_signal(it))

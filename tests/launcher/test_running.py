@@ -2,6 +2,7 @@
 
 import os
 import re
+import resource
 import shutil
 import signal
 import subprocess
@@ -128,6 +129,16 @@ class Running(Scene):
         ran.terminate()
         self.assertEqual(ran.wait(20), -signal.SIGTERM)
         ran.stdout.close()
+
+    def test_files_that_may_not_be_longer(self):
+        """Under a limit on the bytes of a file a write is told, and no signal ends the program; the hint has the limit."""
+        few = lambda: resource.setrlimit(resource.RLIMIT_FSIZE, (20_000, 20_000))
+        self.write("a.pcap", "")
+        code = "head -c 30000 /dev/zero 2>/dev/null >out.0.pcap; SAID='write fault: out.0.pcap' STATUS=6"
+        ended = self.launch("run", "t", "out", "a.pcap", CODE=code, preexec_fn=few)
+        hint = "hint: no file may have more than 20,000 bytes here (ulimit -f); PREFIX is out"
+        self.assertEqual((ended.returncode, ended.stderr.splitlines()[-1]), (6, hint))
+        self.assertEqual((self.jobs / "out.0.pcap").stat().st_size, 20_000)
 
     def test_closed_streams(self):
         """What is closed is closed for the program too, and no other file takes its number."""
