@@ -11,7 +11,7 @@ from .limits import MOST_TABLE_BYTES
 from .made import largest_count
 from .simulation_words import MOST_WAITING, queues_of
 from .too_many import on_bytes, on_cells, on_packets, on_slots
-from .words import LONG, MAX_COUNT, SIMULATE, Fault, read_words
+from .words import CONVERT, LONG, MAX_COUNT, SIMULATE, Fault, read_words
 
 MOST_JOURNAL_BYTES = 134_217_728
 
@@ -93,8 +93,11 @@ def _on_too_long(job, name):
 
 def _on_capture(job, port, said):
     port = int(port)
-    text = capture_hints.hint_on(job.inputs[port], said) if port < len(job.inputs) else None
-    return f"{job.inputs[port]}, the capture of port {port}, {text}" if text else None
+    name = job.inputs[port] if port < len(job.inputs) else ""
+    text = capture_hints.hint_on(name, said) if name else None
+    if text and capture_hints.kind_of(name):
+        text = text.replace(": ", f"; {CONVERT} before the command takes it, or: ", 1)
+    return f"{name}, the capture of port {port}, {text}" if text else None
 
 
 def _of_line(make):

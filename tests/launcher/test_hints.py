@@ -105,17 +105,18 @@ TABLE = [
 SWAPPED = b"".join(capture(frame())[at:at + 2][::-1] for at in range(0, 100, 2))
 HALF = b"\xa1\xb2\xc3\xd4" + capture(frame())[4:]
 LINK = "and the switch takes Ethernet (1) and raw IP (101)"
+BY_WORD = "--convert before the command takes it, or"
 RAW = "capture on one interface, or make raw IP of it"
 CAPTURES = [
     (b"", "short header, 0 bytes", "is empty; a capture without packets has a header of 24 bytes"),
     (capture()[:20], "short header, 20 bytes", "ends within its header of 24 bytes"),
-    (b"\x0a\x0d\x0d\x0a" + bytes(28), "bad magic 0a0d0d0a", "is a pcapng file: editcap -F pcap a.pcap a.classic.pcap"),
-    (gzip.compress(capture(frame()), mtime=0), "bad magic 1f8b0800", "is compressed by gzip: zcat a.pcap > a.classic.pcap"),
-    (b"\xfd7zXZ\x00" + bytes(26), "bad magic fd377a58", "is compressed by xz: xzcat a.pcap > a.classic.pcap"),
-    (b"\x28\xb5\x2f\xfd" + bytes(28), "bad magic 28b52ffd", "is compressed by zstd: zstdcat a.pcap > a.classic.pcap"),
-    (b"BZh9" + bytes(28), "bad magic 425a6839", "is compressed by bzip2: bzcat a.pcap > a.classic.pcap"),
-    (SWAPPED, "bad magic c3d4a1b2", "has the bytes of each pair in the wrong order: dd conv=swab if=a.pcap of=a.classic.pcap"),
-    (capture(magic=0xA1B2CD34), "bad magic 34cdb2a1", "is of a variant of pcap with longer headers: editcap -F pcap a.pcap a.classic.pcap"),
+    (b"\x0a\x0d\x0d\x0a" + bytes(28), "bad magic 0a0d0d0a", f"is a pcapng file; {BY_WORD}: editcap -F pcap a.pcap a.classic.pcap"),
+    (gzip.compress(capture(frame()), mtime=0), "bad magic 1f8b0800", f"is compressed by gzip; {BY_WORD}: zcat a.pcap > a.classic.pcap"),
+    (b"\xfd7zXZ\x00" + bytes(26), "bad magic fd377a58", f"is compressed by xz; {BY_WORD}: xzcat a.pcap > a.classic.pcap"),
+    (b"\x28\xb5\x2f\xfd" + bytes(28), "bad magic 28b52ffd", f"is compressed by zstd; {BY_WORD}: zstdcat a.pcap > a.classic.pcap"),
+    (b"BZh9" + bytes(28), "bad magic 425a6839", f"is compressed by bzip2; {BY_WORD}: bzcat a.pcap > a.classic.pcap"),
+    (SWAPPED, "bad magic c3d4a1b2", f"has the bytes of each pair in the wrong order; {BY_WORD}: dd conv=swab if=a.pcap of=a.classic.pcap"),
+    (capture(magic=0xA1B2CD34), "bad magic 34cdb2a1", f"is of a variant of pcap with longer headers; {BY_WORD}: editcap -F pcap a.pcap a.classic.pcap"),
     (bytes(24), "bad magic 00000000", "is no capture"),
     (capture(version=(2, 3)), "version 2.3", "is not of version 2.4: editcap -F pcap a.pcap a.classic.pcap"),
     (HALF, "version 512.1024",
@@ -174,10 +175,10 @@ class Hints(Scene):
         """The name is that of the port, a command can be copied whatever the name is, and the new name is another."""
         files = {"table.txt": "", "x.pcap": capture(), "my file.pcap.gz": gzip.compress(capture(), mtime=0)}
         said = "capture 1: bad magic 1f8b0800"
-        hint = "my file.pcap.gz, the capture of port 1, is compressed by gzip: zcat 'my file.pcap.gz' > 'my file.pcap'"
+        hint = f"my file.pcap.gz, the capture of port 1, is compressed by gzip; {BY_WORD}: zcat 'my file.pcap.gz' > 'my file.pcap'"
         self.check(["firm", "table.txt", "x.pcap", "my file.pcap.gz"], 4, said, hint, files)
         files = {"table.txt": "", "OUT.pcap": b"\x0a\x0d\x0d\x0a" + bytes(28)}
-        hint = "OUT.pcap, the capture of port 0, is a pcapng file: editcap -F pcap OUT.pcap OUT.classic.pcap"
+        hint = f"OUT.pcap, the capture of port 0, is a pcapng file; {BY_WORD}: editcap -F pcap OUT.pcap OUT.classic.pcap"
         self.check(["firm", "table.txt", "OUT.pcap"], 4, "capture 0: bad magic 0a0d0d0a", hint, files)
 
     def test_repeated_and_too_many_lines(self):
