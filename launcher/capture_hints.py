@@ -4,6 +4,7 @@ import os
 import re
 import shlex
 
+from .given import Converted, given_name
 from .sources import stamp_of
 
 ETHERNET, RAW_IP = 1, 101
@@ -62,9 +63,17 @@ def is_capture(name):
 def converted(command, name, added=".classic", form=".pcap"):
     """A command with the name of a file for IN, and for OUT a name that no file has, in a folder that may be written. Of a
     capture in nanoseconds it makes one in nanoseconds. The new name is that of an unpacked file, or else ends as is said."""
-    command = with_unit(command, name)
-    names = {"IN": name, "OUT": _new_name(name, added, form)}
-    return re.sub(r"\b(IN|OUT)\b", lambda it: shlex.quote(as_file(names[it[0]])), command)
+    command, given = with_unit(command, name), given_name(name)
+    before = _unpacking(given) if isinstance(name, Converted) else None
+    names = {"IN": "-" if before else as_file(given), "OUT": as_file(_new_name(given, added, form))}
+    return (before or "") + re.sub(r"\b(IN|OUT)\b", lambda it: shlex.quote(names[it[0]]), command)
+
+
+def _unpacking(given):
+    """The command that hands a file on to one that reads no such files; None where tools for captures read it."""
+    _, command = kind_of(given) or ("", "editcap")
+    words = command.replace(" > OUT", "").replace(" of=OUT", "")
+    return None if words.startswith("editcap") else words.replace("IN", shlex.quote(as_file(given))) + " | "
 
 
 def with_unit(command, name):
@@ -222,7 +231,7 @@ def on_two_links(job, first, second):
     if not (ethernet and other):
         return None
     fix = to_raw(ethernet, ETHERNET)
-    return f"{ethernet} is Ethernet (1) and {other} raw IP (101), and all captures are of one type; of each that is Ethernet: {fix}"
+    return f"{given_name(ethernet)} is Ethernet (1) and {given_name(other)} raw IP (101), and all captures are of one type; of each that is Ethernet: {fix}"
 
 
 def _link_of(name):

@@ -12,6 +12,7 @@ from itertools import chain
 from typing import Iterable, Iterator, List, NamedTuple, Optional, Tuple, Union
 
 from .capture_hints import ETHERNET, LONGEST_RECORD, RAW_IP, first_bytes, hint_on
+from .given import given_name
 from .slot_lengths import MICROSECOND, SECOND, Slot, of_pace
 from .sources import stamp_of
 from .tables import Routes, read_table, route
@@ -162,7 +163,7 @@ class Records:
     """The records of the capture of a port, whose file is read anew each time that one goes through them."""
 
     def __init__(self, port, name):
-        self.name, self.told = name, f"{name}, the capture of port {port},"
+        self.name, self.told = name, f"{given_name(name)}, the capture of port {port},"
 
     def __iter__(self):
         return map(Record._make, self.fields())

@@ -8,6 +8,7 @@ import tempfile
 from contextlib import contextmanager
 
 from .capture_hints import as_file, kind_of, with_unit
+from .given import converted_from
 from .place import say
 
 MOST_STEPS = 4  # As of a packed file of the form pcapng.
@@ -53,7 +54,7 @@ def _convert(name, stem):
         if made != name:
             os.remove(made)
         made = new
-    return made
+    return made if made == name else converted_from(made, name)
 
 
 def _run(told, command, name, new):

@@ -3,6 +3,7 @@
 from itertools import islice
 
 from .captures import BadCapture, fields_of
+from .given import given_name
 from .sources import stamp_of
 
 MOST_PACKETS = 1_000  # Of each capture, from its beginning, and so many bytes.
@@ -16,7 +17,7 @@ def line_of_cut(names):
         return None
     port, cut, packets = found[0]
     more = f", and so are some of {len(found) - 1} ports more" if len(found) > 1 else ""
-    first = f"{cut:,} of the first {packets:,} packets of port {port} ({names[port]}) are not whole{more}"
+    first = f"{cut:,} of the first {packets:,} packets of port {port} ({given_name(names[port])}) are not whole{more}"
     return f"{first}: a packet has cells for its captured bytes alone; tcpdump -s 0 captures all"
 
 

@@ -6,6 +6,7 @@ import re
 import resource
 
 from . import capture_hints, table_hints
+from .given import given_name
 from .journal_hints import on_journal
 from .limits import MOST_TABLE_BYTES
 from .made import largest_count
@@ -86,7 +87,7 @@ def _on_standard_output(job):
 
 def _on_too_long(job, name):
     if name in job.inputs:
-        return f"{_part_of(job, name)} {on_bytes(job, name)}"
+        return f"{_part_of(job, name)} {on_bytes(job, job.inputs[job.inputs.index(name)])}"
     most = MOST_JOURNAL_BYTES if job.command == "check" else MOST_TABLE_BYTES
     return f"{_part_of(job, name)} may have at most {most:,} bytes"
 
@@ -97,7 +98,7 @@ def _on_capture(job, port, said):
     text = capture_hints.hint_on(name, said) if name else None
     if text and capture_hints.kind_of(name):
         text = text.replace(": ", f"; {CONVERT} before the command takes it, or: ", 1)
-    return f"{name}, the capture of port {port}, {text}" if text else None
+    return f"{given_name(name)}, the capture of port {port}, {text}" if text else None
 
 
 def _of_line(make):

@@ -11,6 +11,7 @@ from itertools import islice, repeat
 from typing import NamedTuple
 
 from .captures import CELL_PAYLOAD, MESSAGE_HEADER, Records, TooManyPackets, over, stamp_nanos
+from .given import given_name
 
 MOST_SLOTS = 1  # A packet that comes so many slots late is no late one.
 MOST_BYTES = 64 << 20
@@ -96,5 +97,5 @@ def lines_of_late(names, slot, most=None):
     allowed = [allowed_slots(slot, stamp_nanos(name)) for name in names]
     for port, late, packets, slots in late_ports((Records(*it).fields() for it in enumerate(names)), slot, most, allowed):
         time = f"{slots:,} slots ({slot.told(slots)})"
-        found.append(f"port {port} ({names[port]}): {late:,} of {packets:,} packets came late, by {time} at most")
+        found.append(f"port {port} ({given_name(names[port])}): {late:,} of {packets:,} packets came late, by {time} at most")
     return found

@@ -3,6 +3,7 @@
 import os
 import stat
 
+from .given import given_name
 from .words import OVERWRITE
 
 # Packets are counted before a run only where this takes no time that a user sees.
@@ -60,7 +61,7 @@ def lines_of_ports(job):
     for port, name in enumerate(job.inputs):
         packets = packets_of(port, name) if is_cheap else None
         more = "" if packets is None else ", 1 packet" if packets == 1 else f", {packets:,} packets"
-        found.append(f"port {port}: {name}{more}")
+        found.append(f"port {port}: {given_name(name)}{more}")
     return found
 
 

@@ -3,8 +3,9 @@
 import os
 from itertools import takewhile
 
-from .capture_hints import converted
+from .capture_hints import converted, is_nano, with_unit
 from .captures import CELL_PAYLOAD, FILE_HEADER, MOST_PACKETS, BadCapture, Records, Unseen, first_time, on_line, read_header, records_of
+from .given import given_name
 from .limits import LONG_LIMITS, limits_of, told_long
 from .slot_lengths import CELL_BYTES, MICROSECOND, MOST_PACE_US, SECOND, short
 from .sources import stamp_of
@@ -29,7 +30,7 @@ def _on_slots(job, port, found):
     cells = [it.cells for it in on_line(found[port], 0, None)]
     if sum(cells) > limit:
         fix = converted(f"editcap -F pcap -r IN OUT 1-{_that_fit(cells, limit)}", name)
-        return f"{text}, and the packets of {name} have {sum(cells):,} cells; to keep the first that fit: {fix}"
+        return f"{text}, and the packets of {given_name(name)} have {sum(cells):,} cells; to keep the first that fit: {fix}"
     times = [packet.time for packet in found[port]]
     fits = _that_fits(job, _times_and_room(found, base, limit))
     count = _count_that_fit(found[port], base, limit, job.slot)
@@ -39,7 +40,7 @@ def _on_slots(job, port, found):
         fix = f"editcap -F pcap -t -{short((min(times) - base) / SECOND, 6).replace(',', '')} IN OUT"
         fits += f"; to begin it with the first packet of all: {converted(fix, name)}"
     goes_on = f"to {short((max(times) - base) / SECOND, 6)} s after the first packet of all captures"
-    return f"{text}, and {name} lasts longer than so many slots of {job.slot.told()}, {goes_on}: {fits}"
+    return f"{text}, and {given_name(name)} lasts longer than so many slots of {job.slot.told()}, {goes_on}: {fits}"
 
 
 def _that_fit(cells, limit):
@@ -73,7 +74,7 @@ def _that_fits(job, times_and_room):
 def on_bytes(job, name):
     """A capture with more bytes than are read, and so with too many cells: how many of its packets fit."""
     if job.is_long:
-        return f"may have at most {limits_of(job).capture_bytes:,} bytes; {KEEPS}"
+        return f"may have at most {limits_of(job).capture_bytes:,} bytes; {with_unit(KEEPS, name)}"
     limit = limits_of(job).cells
     most = FILE_HEADER + CELL_PAYLOAD * limit  # A cell has at most so many bytes of a record.
     text = f"may have at most {limit:,} cells, so at most {most:,} bytes"
@@ -111,13 +112,18 @@ def _whole_records(data):
         pass
 
 
+def _keeps(job):
+    """The command for any capture of a job; in nanoseconds where one is."""
+    return with_unit(KEEPS, next(filter(is_nano, job.inputs), job.inputs[0]))
+
+
 def on_cells(job, cells):
     limit = limits_of(job).cells
     part = 100 * limit // cells
-    text = f"all packets may have at most {limit:,} cells, a multicast one counted at each output: {part} per cent of them fit, and {KEEPS}"
+    text = f"all packets may have at most {limit:,} cells, a multicast one counted at each output: {part} per cent of them fit, and {_keeps(job)}"
     return text + told_long(job, cells, LONG_LIMITS.cells)
 
 
 def on_packets(job, packets):
     limit = limits_of(job).packets
-    return f"all captures together may have at most {limit:,} packets: {100 * limit // packets} per cent of them fit, and {KEEPS}"
+    return f"all captures together may have at most {limit:,} packets: {100 * limit // packets} per cent of them fit, and {_keeps(job)}"

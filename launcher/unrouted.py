@@ -4,6 +4,7 @@ import os
 import re
 import shlex
 
+from .given import Converted
 from .sources import stamp_of
 
 SUMMARY_BYTES = 1024  # More than the summary has, which begins a report.
@@ -15,9 +16,12 @@ def line_of_unrouted(place, job):
     count, names = _count(f"{job.prefix}.report"), [job.table, *job.inputs]
     if not count or not os.path.exists(tool) or not all(map(stamp_of, names)):
         return None
+    told = f"{count:,} packet{'s are' if count > 1 else ' is'} unrouted; "
+    if any(isinstance(name, Converted) for name in names):
+        return told + "to see why, give tools/unrouted captures that are classic ones"
     dashes = ["--"] if any(name.startswith("-") for name in names) else []
     command = shlex.join([_from_here(tool), *dashes, *names])
-    return f"{count:,} packet{'s are' if count > 1 else ' is'} unrouted; to see why: {command}"
+    return f"{told}to see why: {command}"
 
 
 def _from_here(path):

@@ -12,7 +12,9 @@ import unittest
 from pathlib import Path
 
 from launcher.byte_clock import ByteClock, bytes_of
-from launcher.capture_hints import is_nano
+from launcher.capture_hints import converted, is_nano
+from launcher.captures import read_file
+from launcher.given import converted_from
 
 from .scene import Scene, capture, frame
 
@@ -74,8 +76,33 @@ class Convert(Scene):
     def test_dry_run(self):
         ended = self.launch("--convert", "--dry-run", "run", "table.txt", "out", "a.pcapng")
         self.assertEqual(ended.returncode, 0, ended.stderr)
-        self.assertIn(", 1 packet\n", ended.stdout)
+        self.assertIn("port 0: a.pcapng, 1 packet\n", ended.stdout)
         self.assertEqual(self.left(), [])
+
+    def test_names_that_are_told(self):
+        """They are those that were given, and the command of a hint begins with what was given."""
+        late = gzip.compress(capture(frame(), frame(), frame(), times=[0, 5, 10]), mtime=0)
+        self.files(late_gz=late, cut_gz=gzip.compress(capture(frame(), frame())[:-1], mtime=0), raw_pcap=capture(link=101))
+        telling = "late: port 0 (late.gz): 1 of 3 packets came late, by 2 slots (10 us) at most"
+        self.assertIn(telling, self.launch("--convert", "firm", "--pace-us", "5", "table.txt", "late.gz").stderr.splitlines())
+        for name, said, hint in (
+            ("cut.gz", f"capture 0: cut record at {24 + 76}",
+             "cut.gz, the capture of port 0, ends within a packet, as one that is still written; to keep the whole packets:"
+             " zcat cut.gz | tcpdump -r - -w cut"),
+            ("a.pcapng", "link types 1 and 101",
+             "a.pcapng is Ethernet (1) and raw.pcap raw IP (101), and all captures are of one type; of each that is Ethernet:"
+             " editcap -F pcap -L -C 14 -T rawip a.pcapng a.classic.pcap"),
+        ):
+            ended = self.launch("--convert", "firm", "table.txt", name, "raw.pcap", SAID=said, STATUS="4")
+            self.assertEqual(ended.stderr.splitlines()[1:], [said, f"hint: {hint}"])
+
+    @unittest.skipUnless(shutil.which("tcpdump"), "tcpdump is not there")
+    def test_command_of_a_hint(self):
+        """It reads what was unpacked before."""
+        self.files(cut_gz=gzip.compress(capture(frame(), frame())[:-1], mtime=0))
+        command = converted("tcpdump -r IN -w OUT", converted_from("unpacked.pcap", str(self.jobs / "cut.gz")))
+        subprocess.run(["sh", "-c", command], cwd=self.jobs, stderr=subprocess.DEVNULL)
+        self.assertEqual(len(read_file(self.jobs / "cut").packets), 1)
 
     def test_tool_fails(self):
         ended = self.launch("--convert", "run", "table.txt", "out", "a.pcapng", EDITCAP_FAILS="1")

@@ -1,5 +1,6 @@
 """After a run with unrouted packets: the command that says what they are, where standard error is a terminal."""
 
+import gzip
 import os
 import pty
 
@@ -16,11 +17,11 @@ class Unrouted(Scene):
         self.write("-b c.pcap", capture())
         self.executable(self.top / "tools/unrouted", "#!/bin/sh\necho \"$@\"\n")
 
-    def told(self, *words, is_terminal=True, **more):
+    def told(self, *words, is_terminal=True, own=(), **more):
         """The hint that a run of these words gives, None where it gives none."""
         ours, theirs = pty.openpty()
         on_terminal = {"preexec_fn": lambda: os.dup2(theirs, 2)} if is_terminal else {}
-        ended = self.launch("run", *words, **{"CODE": WRITES_REPORT % 2, **more, **on_terminal})
+        ended = self.launch(*own, "run", *words, **{"CODE": WRITES_REPORT % 2, **more, **on_terminal})
         os.write(theirs, (ended.stderr or "").encode() + b"the end\n")
         lines = b""
         while not lines.endswith(b"the end\r\n"):
@@ -39,6 +40,12 @@ class Unrouted(Scene):
         code = WRITES_REPORT.replace("out.report", "../jobs/out.report") % 3
         told = self.told(*words, cwd=self.top, CODE=code)
         self.assertEqual(told, "3 packets are unrouted; to see why: tools/unrouted ../jobs/table.txt ../jobs/a.pcap")
+
+    def test_converted(self):
+        """Captures that were converted are gone by then."""
+        self.write("c.gz", gzip.compress(capture(frame()), mtime=0))
+        told = "2 packets are unrouted; to see why, give tools/unrouted captures that are classic ones"
+        self.assertEqual(self.told("table.txt", "out", "a.pcap", "c.gz", own=["--convert"]), told)
 
     def test_none(self):
         """Where all packets have a line, on no terminal, after a failure, of a device, and where the tool is not there."""
