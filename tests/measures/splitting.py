@@ -166,6 +166,14 @@ class Splits(unittest.TestCase):
             with self.assertRaises(ValueError):
                 self.split([ipv4()], [word], 101)
 
+    def test_command_of_a_run(self):
+        """With more than 131,072 cells it is one of a long job; packets of full size have 28."""
+        for packets, word in ((4681, ""), (4682, "--long ")):
+            self.whole.write_bytes(traffic.capture_bytes(101, enumerate([ipv4() + bytes(1500 - len(ipv4()))] * packets)))
+            folder = self.room / str(packets)
+            told = run_here("split", self.whole, folder, "*")[1].splitlines()[-1].partition("tiny_tera ")[2]
+            self.assertEqual(told, f"run {word}--ethernet E {folder}/table.txt PREFIX {folder}/[0-6][0-9].pcap")
+
     def test_nothing_is_replaced(self):
         """Of a folder in which one of the names is there nothing is written; other files do not matter."""
         for name in ("01.pcap", "table.txt"):

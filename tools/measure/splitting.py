@@ -8,7 +8,8 @@ from pathlib import Path
 from typing import NamedTuple
 
 from launcher.capture_hints import ETHERNET, LONGEST_RECORD, RAW_IP, hint_on
-from launcher.captures import MICROSECONDS, NANOSECONDS, SECOND, BadCapture, addresses, read_header, records_of
+from launcher.captures import MICROSECONDS, NANOSECONDS, SECOND, BadCapture, addresses, cells_of, read_header, records_of
+from launcher.made import most_cells
 from launcher.tables import MAX_LINES
 
 from . import pcapng, traffic
@@ -83,6 +84,12 @@ def split(network, words):
         if ends and 0 < ends[0] < MULTICAST:
             sources[ends[0], port] += 1
     return Split(ports, records, others, table_lines(ports, sources))
+
+
+def needs_long(found):
+    """Whether a run of the captures takes a long job at any rate, since their packets have too many cells for another."""
+    cells = sum(cells_of(record.length) for records in found.records for record in records)
+    return cells > most_cells(len(found.records))
 
 
 def table_lines(ports, sources):
