@@ -1,6 +1,7 @@
 """The word --convert: captures of other forms become classic ones in a temporary folder, which goes when the run has ended."""
 
 import os
+import re
 import shlex
 import signal
 import subprocess
@@ -50,17 +51,18 @@ def _convert(name, stem):
             break
         what, command = found
         new = f"{stem}.{step}.pcap"
-        _run(f"{name} {what}", with_unit(command, made), made, new)
+        run_command(f"{name} {what}", with_unit(command, made), made, new)
         if made != name:
             os.remove(made)
         made = new
     return made if made == name else converted_from(made, name)
 
 
-def _run(told, command, name, new):
+def run_command(told, command, name, new):
     """Runs a command that makes one file of another."""
     words, _, out = command.partition(" > ")
-    words = [word.replace("IN", as_file(name)).replace("OUT", new) for word in words.split()]
+    names = {"IN": as_file(name), "OUT": new}
+    words = [re.sub(r"\b(IN|OUT)\b", lambda it: names[it[0]], word) for word in words.split()]
     say(f"{told}: {shlex.join(words)}" + (f" > {new}" if out else ""))
     try:
         with open(new if out else os.devnull, "wb") as file:
@@ -72,4 +74,11 @@ def _run(told, command, name, new):
         raise Failed(f"{words[0]}: {fault.strerror}") from None
     if ended.returncode:
         said = os.fsdecode(ended.stderr).strip().splitlines()
-        raise Failed(f"{words[0]} ended with status {ended.returncode}" + (f": {said[-1]}" if said else ""))
+        raise Failed(f"{words[0]} ended with status {ended.returncode}" + (f": {said[-1]}" if said else "") + _told_room(new))
+
+
+def _told_room(name):
+    """That a file had no room, and where there may be more; nothing where its disk is not full."""
+    folder = os.path.dirname(name)
+    is_full = os.statvfs(folder).f_bavail == 0
+    return f"; the disk of {folder} is full, and the variable TMPDIR names a folder on another" if is_full else ""

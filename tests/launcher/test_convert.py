@@ -9,11 +9,15 @@ import struct
 import subprocess
 import time
 import unittest
+import unittest.mock
 from pathlib import Path
+from types import SimpleNamespace
 
+from launcher import converting
 from launcher.byte_clock import ByteClock, bytes_of
 from launcher.capture_hints import converted, is_nano
 from launcher.captures import read_file
+from launcher.converting import Failed
 from launcher.given import converted_from
 
 from .scene import Scene, capture, frame
@@ -67,6 +71,12 @@ class Convert(Scene):
         self.assertEqual(self.seen.read_bytes(), 2 * CLASSIC)
         self.assertEqual(self.left(), [])
 
+    def test_names_with_words_of_commands(self):
+        """A name may have the letters that stand for files in a command."""
+        self.write("OUT of INDIA.pcapng", NEXT + CLASSIC)
+        ended = self.launch("--convert", "firm", "table.txt", "OUT of INDIA.pcapng")
+        self.assertEqual((ended.returncode, ended.stdout), (0, "summary\n"), ended.stderr)
+
     def test_nothing_to_convert(self):
         words = ["firm", "--rounds", "2", "table.txt", "b.pcap"]
         ended = self.launch("--convert", *words)
@@ -110,6 +120,13 @@ class Convert(Scene):
         self.assertEqual((ended.returncode, ended.stderr.splitlines()[1]), (4, told))
         self.assertFalse(self.notes.exists())
         self.assertEqual(self.left(), [])
+
+    def test_no_room(self):
+        """Of a full disk it is told which variable names another."""
+        full = unittest.mock.patch("os.statvfs", lambda _: SimpleNamespace(f_bavail=0))
+        with full, unittest.mock.patch("launcher.converting.say"), self.assertRaises(Failed) as why:
+            converting.run_command("a.gz is compressed by gzip", "zcat IN > OUT", str(self.room / "gone"), str(self.room / "tmp/0.pcap"))
+        self.assertTrue(str(why.exception).endswith(f"; the disk of {self.room / 'tmp'} is full, and the variable TMPDIR names a folder on another"))
 
     def test_tool_is_missing(self):
         (self.room / "bin/editcap").unlink()
