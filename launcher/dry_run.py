@@ -29,11 +29,13 @@ class Refused(Exception):
 
 
 class Found(NamedTuple):
-    """What is seen of a job: the status, the line for one that is not 0, and what was not looked at."""
+    """What is seen of a job: the status, the line for one that is not 0, what was not looked at, and the packets of the
+    ports, as far as they were counted."""
 
     status: int
     said: str
     unseen: Tuple[str, ...]
+    packets: Tuple[int, ...]
 
 
 def look(job) -> Found:
@@ -44,7 +46,7 @@ def look(job) -> Found:
         sight.look()
     except Refused as fault:
         status, said = fault.status, fault.said
-    return Found(status, said, sight.unseen())
+    return Found(status, said, sight.unseen(), tuple(getattr(sight, "packets", ())))
 
 
 class _Made:
@@ -109,6 +111,7 @@ class _Captures:
     def __init__(self, job):
         self.job, self.limits = job, limits_of(job)
         self.others = []  # Files that are not seen.
+        self.packets = []  # Of each port.
         self.routes = None
 
     def unseen(self):
@@ -154,13 +157,14 @@ class _Captures:
 
     def _count(self, base):
         """Refused where a port has too many arrival slots, or all captures have too many packets or cells."""
-        packets, cells, known = 0, 0, {}
+        cells, known = 0, {}
         for port, name in enumerate(self.job.inputs):
-            slots, more, cells_more = self._counted(_bytes_of(name), base, known)
+            slots, packets, cells_more = self._counted(_bytes_of(name), base, known)
+            self.packets.append(packets)
             if slots > self.limits.slots:
                 raise Refused(REFUSED, f"too many slots: port {port} has {slots}")
-            packets += more
             cells += cells_more
+        packets = sum(self.packets)
         if self.limits.packets and packets > self.limits.packets:
             raise Refused(REFUSED, f"too many packets: {packets}")
         if cells > self.limits.cells:

@@ -160,7 +160,7 @@ def _dry_run(_, words, job, fault):
     from .dry_run import look
     _tell_rate(job)
     found = look(job)
-    status = tell([*lines_of_job(job), *(f"not looked at: {what}" for what in found.unseen)])
+    status = tell([*lines_of_job(job, found.packets), *(f"not looked at: {what}" for what in found.unseen)])
     if found.status:
         tell_error(found.said)
         _tell_hint(words_of_program(job, words), found.status, found.said)

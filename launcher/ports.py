@@ -54,12 +54,12 @@ def _told(job, name, what, output, made):
     return f"{why}; nothing was run. Give another PREFIX, or {OVERWRITE} before the command"
 
 
-def lines_of_ports(job):
-    """For each port its number, its capture, and where that is cheap the number of packets."""
+def lines_of_ports(job, counted=()):
+    """For each port its number, its capture, and where it was counted, or that is cheap, the number of packets."""
     is_cheap = sum(map(_size, job.inputs)) <= MOST_BYTES_COUNTED
     found = []
     for port, name in enumerate(job.inputs):
-        packets = packets_of(port, name) if is_cheap else None
+        packets = counted[port] if port < len(counted) else packets_of(port, name) if is_cheap else None
         more = "" if packets is None else ", 1 packet" if packets == 1 else f", {packets:,} packets"
         found.append(f"port {port}: {given_name(name)}{more}")
     return found
@@ -81,10 +81,10 @@ def packets_of(port, name):
         return None
 
 
-def lines_of_job(job):
-    """What a job reads and writes, for --dry-run."""
+def lines_of_job(job, counted=()):
+    """What a job reads and writes, for --dry-run, with the packets of ports as far as they were counted."""
     found = [f"table: {job.table}"] if job.table is not None else []
-    found += lines_of_ports(job)
+    found += lines_of_ports(job, counted)
     found += [f"journal: {name}" for name in job.names if job.command == "check"]
     found += [f"writes {name}" + (", which is there" if os.path.exists(name) else "") for name in job.outputs()]
     return found or ["no file is read or written"]

@@ -93,6 +93,12 @@ class DryRun(Scene):
         ]))
         self.assertEqual(ended.stderr, f"late: not looked for: {name}, the capture of port 1, is no file that can be read again\n")
 
+    def test_packets_of_large_captures(self):
+        """They are told of captures of any size, since they are counted in any case, here in 5 MB."""
+        self.files(table_txt="* 0\n", a_pcap=capture(*[bytes(65_014)] * 80), b_pcap=capture(frame()))
+        told = self.launch("--dry-run", "run", "--long", "table.txt", "out", "a.pcap", "b.pcap").stdout.splitlines()
+        self.assertEqual(told[1:3], ["port 0: a.pcap, 80 packets", "port 1: b.pcap, 1 packet"])
+
     def test_ethernet(self):
         """The line rate is told first, and slots are those of this rate: 3,050 microseconds have 94,526 at 15,868 Mb/s."""
         self.files(table_txt="* 0\n", a_pcap=capture(frame(), frame(), times=[0, 3_050]), b_pcap=capture(frame(), frame(), times=[0, 4_300]))
