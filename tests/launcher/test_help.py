@@ -159,12 +159,13 @@ class LineRates(unittest.TestCase):
     def test_what_to_type(self):
         rows = rows_of("Line rates")[:6]
         worst = max(cells_of_frame(captured) * 64 / (captured + 24) for captured in range(60, 1515))
-        for number, ethernet, rate, slot, longest in rows:
+        for number, ethernet, rate, slot, longest, of_long in rows:
             number = int(number.replace(",", ""))
             self.assertEqual((ethernet, rate), (f"`--ethernet {number}`", f"`--line-rate {ceil(worst * number - 1e-9)}`"))
             exact = 512e-6 / int(rate.strip("`").split()[1])
             self.assertAlmostEqual(seconds(slot), exact, delta=0.001 * exact)
-            self.assertAlmostEqual(seconds(longest), 131_072 * exact, delta=0.06 * 131_072 * exact)
+            for told, slots in ((longest, 131_072), (of_long, 1 << 31)):
+                self.assertAlmostEqual(seconds(told), slots * exact, delta=0.06 * slots * exact)
 
     def test_frames(self):
         rows = rows_of("Line rates")[6:]
@@ -183,7 +184,7 @@ def cells_of_frame(captured):
 
 def seconds(text):
     number, unit = text.split()
-    return float(number) * {"s": 1, "ms": 1e-3, "us": 1e-6, "ns": 1e-9}[unit]
+    return float(number) * {"hours": 3600, "minutes": 60, "s": 1, "ms": 1e-3, "us": 1e-6, "ns": 1e-9}[unit]
 
 
 class Manual(unittest.TestCase):
