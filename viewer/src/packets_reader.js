@@ -128,7 +128,7 @@
      */
     function* readPackets(bytes) {
         if (bytes.length > MAX_BYTES) {
-            throw new FileFault(`a packets file has at most ${MAX_BYTES} bytes, and this one has ${bytes.length}`);
+            throw new FileFault(`this packets file has ${bytes.length} bytes, and no more than ${MAX_BYTES} are shown`);
         }
         const packets = new Packets();
         const decoder = new TextDecoder("latin1");
