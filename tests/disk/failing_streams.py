@@ -116,6 +116,8 @@ def limiting(what, number):
 
 
 MEGABYTE = 1 << 20
+# For the stack of the program: where it cannot grow, the system ends a program by a signal.
+STACK = 1 << 18
 MEGABYTES = (3, 4, 6, 8, 12, 16, 24, 32, 48, 64, 128, 256)
 
 
@@ -142,7 +144,7 @@ def run_with_little_memory(place, *words):
         for name in set(after) - set(before):
             (place.folder / name).unlink(missing_ok=True)
         limit = limiting(resource.RLIMIT_AS, megabytes * MEGABYTE)
-        if not can_be_loaded(place, limit):
+        if not can_be_loaded(place, limiting(resource.RLIMIT_AS, megabytes * MEGABYTE - STACK)):
             told.append(f"{megabytes}: not loaded")
             continue
         found = place.run(*words, before=limit)
