@@ -3,7 +3,9 @@
 import io
 import tempfile
 import unittest
+from bisect import bisect_right
 from pathlib import Path
+from unittest import mock
 
 from measure import report
 from measure.queue_names import QueueName, read_name
@@ -30,8 +32,19 @@ class Fills(unittest.TestCase):
         """With slot lines cells too; by them and without them the same packets."""
         bare = REPORT[:REPORT.index("slot 0")]
         for name, (packets, cells) in FILLS.items():
-            self.assertEqual(self.fill(name), (packets, cells, []))
-            self.assertEqual(self.fill(name, bare), (packets, None, []))
+            self.assertEqual(self.fill(name), (packets, cells, [], range(7)))
+            self.assertEqual(self.fill(name, bare), (packets, None, [], range(7)))
+
+    def test_long_runs(self):
+        """Of these the slots are kept in which the number changes, and by them it is the same in every slot."""
+        bare = REPORT[:REPORT.index("slot 0")]
+        with mock.patch("measure.queue_fill.MOST_SLOTS", 6):
+            for name, (packets, _) in FILLS.items():
+                found = self.fill(name, bare)
+                self.assertEqual([found.packets[bisect_right(found.slots, slot) - 1] for slot in range(7)], packets)
+                self.assertTrue(set(found.slots) >= {0, 6} and len(found.slots) < 6, found)
+            long = self.fill("1>0:0", bare.replace("slots 7", "slots 4294967295"))
+            self.assertEqual((long.slots, long.packets), ([0, 2, 3, 4294967294], [0, 1, 0, 0]))
 
     def test_peaks_of_jobs(self):
         """The greatest number of cells, and its first slot, are those that the reports of jobs tell of their queues."""
@@ -54,7 +67,7 @@ class Fills(unittest.TestCase):
     def test_dropped(self):
         """A queue that drops all its packets: nothing waits, and the slots are told."""
         rows = "2,0,20,1,dropped,1,u,0,3,,\n2,1,20,1,dropped,1,u,0,4,,\n"
-        self.assertEqual(self.fill("2>0:1", packets=PACKETS + rows), ([0] * 7, [0] * 7, [3, 4]))
+        self.assertEqual(self.fill("2>0:1", packets=PACKETS + rows), ([0] * 7, [0] * 7, [3, 4], range(7)))
 
     def test_names(self):
         for word, told in (("0>1:2", "0>1:2u"), ("10>63:3u", "10>63:3u"), ("0>*:2", "0>*:2m"), ("0>*:2m", "0>*:2m")):

@@ -1,5 +1,6 @@
 """The figures, with matplotlib, without a display."""
 
+from bisect import bisect_right
 from collections import defaultdict
 from pathlib import Path
 
@@ -165,16 +166,17 @@ def fill_figure(title, fill):
     figure, axes = _one(title, "slot", "in the queue, before the slot serves it")
     # The line behind is broader, since they are the same where packets have one cell.
     lines = (("cells", fill.cells, 2.5), ("packets", fill.packets, 1))
+    style = "steps-mid" if isinstance(fill.slots, range) else "steps-post"
     for colour, (name, counts, width) in zip(COLOURS, lines):
         if counts is not None:
-            label = f"{name}, at most {max(counts)} (slot {counts.index(max(counts))})"
-            axes.plot(counts, color=colour, linewidth=width, drawstyle="steps-mid", label=label)
+            label = f"{name}, at most {max(counts)} (slot {fill.slots[counts.index(max(counts))]})"
+            axes.plot(fill.slots, counts, color=colour, linewidth=width, drawstyle=style, label=label)
     highest = fill.packets if fill.cells is None else fill.cells
     if fill.dropped:
-        heights = [highest[slot] for slot in fill.dropped]
+        heights = [highest[bisect_right(fill.slots, slot) - 1] for slot in fill.dropped]
         axes.plot(fill.dropped, heights, "x", color="black", label=f"dropped packets, {len(fill.dropped)}")
-    axes.set_xlim(0, max(1, len(fill.packets) - 1))
-    axes.set_ylim(0, max(1, *highest) * ROOM_FOR_LEGEND)
+    axes.set_xlim(0, max(1, fill.slots[-1]))
+    axes.set_ylim(0, max(1, max(highest)) * ROOM_FOR_LEGEND)
     axes.yaxis.set_major_locator(MaxNLocator(integer=True))
     axes.legend(loc="upper right")
     return figure

@@ -5,21 +5,25 @@ outputs. Counted is what a slot has before it serves: with the packet that arriv
 """
 
 from collections import Counter, defaultdict
-from itertools import groupby
-from typing import NamedTuple, Optional
+from itertools import accumulate, groupby
+from typing import NamedTuple, Optional, Sequence
 
 import numpy
 
 from .packets import Misfit
 
-MOST_SLOTS = 20_000_000
+# Of a run of more, which has no slot lines, only those slots are kept in which the number is another than before.
+MOST_SLOTS = 1_000_000
+
 
 class Fill(NamedTuple):
-    """What was in a queue in each slot: packets, cells where these are known; and the slots that dropped packets."""
+    """What was in a queue in each of these slots, and from it to the next: packets, cells where these are known; and the
+    slots that dropped packets."""
 
     packets: list
     cells: Optional[list]
     dropped: list
+    slots: Sequence[int]
 
 
 def fill_of(packets, report, name):
@@ -28,13 +32,14 @@ def fill_of(packets, report, name):
     if not len(came):
         raise ValueError(f"no packet came to the queue {name}")
     slots = report.summary["slots"]
-    if slots > MOST_SLOTS:
-        raise ValueError(f"the run has {slots:,} slots, and a queue is drawn over at most {MOST_SLOTS:,}")
     dropped = came[came["state"] == "dropped"].drop_duplicates("packet")["arrival"].tolist()
     waiting = came[came["state"] == "forwarded"]
     cells = None if report.slots is None else cells_waiting(waiting, report, name)
     _check_peak(cells, report, name)
-    return Fill(packets_waiting(waiting, slots), cells, dropped)
+    if cells is None and slots > MOST_SLOTS:
+        kept, packets = changes(*_times(waiting), slots)
+        return Fill(packets, None, dropped, kept)
+    return Fill(packets_waiting(waiting, slots), cells, dropped, range(slots))
 
 
 def rows_of(packets, name):
@@ -47,8 +52,23 @@ def rows_of(packets, name):
 
 def packets_waiting(rows, slots):
     """The packets in a queue in each of so many slots, from the rows of those that it forwarded."""
+    return _running(*_times(rows), slots)
+
+
+def _times(rows):
+    """How many packets come in each slot, and how many have left before it."""
     times = rows.groupby("packet").agg({"arrival": "first", "departure": "max"}).astype(int)
-    return _running(Counter(times["arrival"]), Counter(times["departure"]), slots)
+    return Counter(times["arrival"]), Counter(times["departure"])
+
+
+def changes(came, left, slots):
+    """The first and the last of so many slots and those in which a number changes, and the number from each on: how many
+    came up to it, less how many left up to it."""
+    change = Counter({0: 0, slots - 1: 0})
+    change.update(came)
+    change.subtract(left)
+    kept = sorted(slot for slot, by in change.items() if slot < slots and (by or slot in (0, slots - 1)))
+    return kept, list(accumulate(change[slot] for slot in kept))
 
 
 def _running(came, left, slots):
