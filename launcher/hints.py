@@ -86,6 +86,8 @@ def _on_standard_output(job):
 
 
 def _on_too_long(job, name):
+    if name == job.table and capture_hints.is_capture(name):  # It is read before the captures.
+        return table_hints.on_capture(job)
     if name in job.inputs:
         return f"{_part_of(job, name)} {on_bytes(job, job.inputs[job.inputs.index(name)])}"
     most = MOST_JOURNAL_BYTES if job.command == "check" else MOST_TABLE_BYTES

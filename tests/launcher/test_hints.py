@@ -193,6 +193,9 @@ class Hints(Scene):
         hint = "a.pcap is a capture, and stands where the table is expected: the words are TABLE PREFIX INPUT.."
         self.check(["run", "a.pcap", "out", "b.pcap"], 4, "table line 1: bad line", hint)
         self.check(["run", "a.pcap", "out", "b.pcap"], 4, "table: 5000 lines", hint, {**GOOD, "a.pcap": capture(b"x\n" * 5000)})
+        large = {**GOOD, "a.pcap": capture() + bytes(16_777_216)}
+        self.check(["run", "a.pcap", "out", "b.pcap"], 4, "too long: a.pcap", hint, large)
+        self.check(["run", "--long", "a.pcap", "out", "b.pcap", "a.pcap"], 4, "too long: a.pcap", hint, large)
         files = {**GOOD, "table.txt": "* 1\n"}
         hint = "a.pcap is a capture, and stands where PREFIX is expected: the words are TABLE PREFIX INPUT.."
         self.check(["run", "table.txt", "a.pcap", "b.pcap"], 4, "table line 1: port 1", hint, files)
