@@ -169,6 +169,7 @@ def _dry_run(_, words, job, fault):
         _warn_of_late(job, True)
     if job.inputs:
         _warn_of_cut(job)
+        _warn_of_prefix(job)
     return status
 
 
@@ -216,6 +217,7 @@ def _start(place, words, job, fault):
             tell_error(f"hint: {text}")
     if status == 0 and job and job.inputs:
         _warn_of_cut(job)
+        _warn_of_prefix(job)
     return status
 
 
@@ -286,6 +288,13 @@ def _warn_of_cut(job):
     line = line_of_cut(job.inputs)
     if line:
         tell_error(f"cut: {line}")
+
+
+def _warn_of_prefix(job):
+    """Tells where a capture stands in the place of PREFIX, and so comes in at no port."""
+    from .capture_hints import is_capture
+    if job.prefix and is_capture(job.prefix):
+        tell_error(f"note: PREFIX {job.prefix} is a capture, which comes in at no port: the words are TABLE PREFIX INPUT..")
 
 
 def start(top):

@@ -86,6 +86,13 @@ class LostFiles(Scene):
             " give a name in it: folder/out\n"
         ))
 
+    def test_capture_as_prefix(self):
+        """A run without PREFIX takes the first capture for it: that is told where nothing else is wrong."""
+        note = "note: PREFIX a.pcap is a capture, which comes in at no port: the words are TABLE PREFIX INPUT..\n"
+        for own in ([], ["--dry-run"]):
+            ended = self.launch(*own, "run", "table.txt", "a.pcap", "b.pcap")
+            self.assertEqual((ended.returncode, ended.stderr), (0, note))
+
     def test_no_file_is_lost(self):
         """Outputs of other runs and special files are no inputs of this one."""
         self.write("out.2.pcap", capture())
