@@ -63,17 +63,21 @@ def run(program, words, clock=None):
 def _pieces(ran, clock):
     """What a program says on the streams that are read here, as it comes, behind the number of the stream."""
     open_ones = {pipe.fileno(): number for number, pipe in ((1, ran.stdout), (2, ran.stderr)) if pipe}
+    poll = select.poll()
+    for pipe in open_ones:
+        poll.register(pipe, select.POLLIN)
     while open_ones:
-        ready = select.select(list(open_ones), [], [], 1 if clock else None)[0]
+        ready = poll.poll(1000 if clock else None)
         if not ready:
             clock.second(ran.pid)
-        for pipe in ready:
+        for pipe, _ in ready:
             piece = os.read(pipe, KEPT)
             if clock:
                 clock.clear()
             if piece:
                 yield open_ones[pipe], piece
             else:
+                poll.unregister(pipe)
                 del open_ones[pipe]
 
 
