@@ -1,6 +1,6 @@
-"""Compares the program `simulate` with the model on random simulations. It is the one that the variable SIMULATE names,
-as `tests/run_model` sets it, else the one that was built here; without one this is skipped. The variable SIMULATIONS says how
-many there are, where it is set."""
+"""Compares the program `simulate` with the model on random simulations, and with those that are stored. It is the one that
+the variable SIMULATE names, as `tests/run_model` sets it, else the one that was built here; without one this is skipped. The
+variable SIMULATIONS says how many random ones there are, where it is set."""
 
 import os
 import random
@@ -14,6 +14,8 @@ from .words import PATTERNS, SCHEDULERS, WEIGHED
 TOP = Path(__file__).resolve().parents[3]
 VARIABLE, BUILT = "SIMULATE", TOP / "crates/simulate/out/simulate"
 JOBS = int(os.environ.get("SIMULATIONS", 60))
+STORED, REFUSED = TOP / "tests/simulations", TOP / "tests/simulations/refused_words.txt"
+USAGE = "usage: tiny_tera simulate [options] SEED SLOTS PORTS"
 
 
 def program():
@@ -41,20 +43,40 @@ def random_words(rng):
     return words + (["--histogram"] if rng.random() < 0.5 else [])
 
 
+def run_program(words):
+    """How the program ends."""
+    return subprocess.run([str(program()), *words], stdout=subprocess.PIPE, stderr=subprocess.PIPE, universal_newlines=True)
+
+
 @unittest.skipUnless(program(), "there is no program simulate, named by SIMULATE, built here or stored")
 class Program(unittest.TestCase):
     def test_random_simulations(self):
         rng = random.Random(1)
         for _ in range(JOBS):
             words = random_words(rng)
-            expected = run_words(words)
-            printed = dict(stdout=subprocess.PIPE, stderr=subprocess.PIPE, universal_newlines=True)
-            ended = subprocess.run([str(program()), *words], **printed)
+            expected, ended = run_words(words), run_program(words)
             with self.subTest(words=" ".join(words)):
                 self.assertEqual(ended.returncode, expected.status)
                 self.assertEqual(ended.stdout.splitlines(), expected.output)
                 if expected.status != 2:
                     self.assertEqual(ended.stderr.splitlines(), expected.error)
+
+    def test_stored_simulations(self):
+        for args in sorted(STORED.glob("*/args")):
+            ended = run_program(args.read_text().split("\n")[:-1])
+            for name, found in (("status", f"{ended.returncode}\n"), ("stdout", ended.stdout), ("stderr", ended.stderr)):
+                with self.subTest(simulation=args.parent.name, of=name):
+                    self.assertEqual(found, (args.parent / "expected" / name).read_text())
+
+    def test_refused_words(self):
+        rows = [line.split(" => ") for line in REFUSED.read_text().splitlines() if line.startswith("simulate ")]
+        self.assertTrue(rows)
+        for words, answer in rows:
+            status, told = answer.split(" ", 1)
+            ended = run_program(words.split())
+            with self.subTest(words=words):
+                self.assertEqual((str(ended.returncode), ended.stdout), (status, ""))
+                self.assertEqual(ended.stderr, f"{USAGE if told == 'usage' else told}\n")
 
 
 class Words(unittest.TestCase):
