@@ -1,4 +1,4 @@
-use journal_command::{CheckEnding, check_file};
+use job_files::{CheckEnding, check_file};
 use outside::{Call, Fail, MemFiles, names_differ};
 use scheduler_names::SchedulerName;
 use std::test;

@@ -1,9 +1,9 @@
 -- At which status a command ends after a refused call.
 use Rattle.std.proofs.Common.{◌≡◌, ◌⊎◌, ℕ, false, refl, inl, inr, arith}
 use Rattle.outside.specs.Faults.{Place, ReadOf, BeginOf, WriteOf, ToOut, ToErr, OnlyRose, of_err, of_reads, of_writes}
-use Rattle.journal_command.specs.Checks as Checks
-use Rattle.journal_command.specs.declared.ending.CheckEnding.{CheckEnding}
-use Rattle.journal_command.specs.declared.ending.CheckEnding.TheVariants as check_ending
+use Rattle.job_files.specs.Checks as Checks
+use Rattle.job_files.specs.declared.check_ending.CheckEnding.{CheckEnding}
+use Rattle.job_files.specs.declared.check_ending.CheckEnding.TheVariants as check_ending
 use Rattle.job_files.specs.Statuses.{EndsAt, RefusedCallsEnd, check_status, refused_by, status_of}
 use Rattle.job_files.specs.declared.ending.Ending.{Ending}
 use Rattle.job_files.specs.declared.ending.Ending.TheVariants.{Done, Usage, ReadFault, TooLong, Refused, JournalTooLong, PacketsTooLong, OutOfMemory}

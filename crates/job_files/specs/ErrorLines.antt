@@ -4,8 +4,8 @@ use Rattle.std.specs.List.{concat}
 use Rattle.journal_check.specs.declared.verdict.Reason.{Reason}
 use Rattle.journal_check.specs.declared.verdict.Reason.TheVariants.{AfterEnd, More, Keeps, NoEnd}
 use Rattle.journal_check.specs.declared.verdict.Reason.TheVariants as reason
-use Rattle.journal_command.specs.declared.ending.CheckEnding.{CheckEnding}
-use Rattle.journal_command.specs.declared.ending.CheckEnding.TheVariants as check_ending
+use Rattle.job_files.specs.declared.check_ending.CheckEnding.{CheckEnding}
+use Rattle.job_files.specs.declared.check_ending.CheckEnding.TheVariants as check_ending
 use Rattle.switch_words.specs.Reading.{JobWords, run, gen, check, firm}
 use Rattle.job_files.specs.Jobs.{input_name, run_reads, firm_reads}
 use Rattle.job_files.specs.OutputFiles.{output_name, report_name, journal_name, packets_name}

@@ -1,3 +1,4 @@
+pub mod Checks
 pub mod Jobs
 pub mod Inputs
 pub mod OutputFiles

@@ -1,8 +1,8 @@
 ghost use Rattle.std.specs.Prelude.{◌≡◌};
 ghost use Rattle.job_files.specs.Statuses.{check_status, status_of};
 
+use crate::check_ending::CheckEnding;
 use crate::inputs::InputFile;
-use journal_command::CheckEnding;
 use rotating_pick::OutOfMemory;
 use std::alloc::{AllocError, AllocFailed};
 use switch_plan::PlanFault;

@@ -9,12 +9,12 @@ ghost use Rattle.job_files.specs.LineParts.{Gives, GivesLine, part_text};
 ghost use Rattle.job_files.specs.RefusalLines.{capture_line, memory_line, refusal_line, table_line};
 ghost use Rattle.job_files.specs.Statuses.{check_status, status_of};
 
+use crate::check_ending::CheckEnding;
 use crate::ending::{Ending, Written};
 use crate::inputs::{InputFile, input_name, reads_of_firm, reads_of_run};
 use forward_table::TableFault;
 use itoa::Buffer;
 use journal_check::Reason;
-use journal_command::CheckEnding;
 use outside::{Failed, Files};
 use pcap_records::PcapFault;
 use switch_plan::PlanFault;

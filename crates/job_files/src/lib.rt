@@ -1,13 +1,20 @@
-//! The files of a job and how a command ends: inputs read, outputs written, and the line on standard error.
+//! The files of a job and how a command ends: inputs read, outputs written, a journal file checked, and the line on standard
+//! error.
 #![tactic(auto)]
 
+mod check;
+mod check_ending;
 mod ending;
 mod error_lines;
 mod inputs;
+mod journal_file;
 mod limits;
 mod output_files;
 mod pieces;
+mod yes_lines;
 
+pub use check::check_file;
+pub use check_ending::CheckEnding;
 pub use ending::{Ending, Written};
 pub use error_lines::{print_line, print_memory, print_usage};
 pub use inputs::{

@@ -19,8 +19,8 @@ use Rattle.job_files.specs.Inputs.{AreFilesRead, AreInputs, CaptureFits, Capture
 use Rattle.job_files.specs.Jobs.{ReadWords, reads_of, IsInput, capture_bytes, input_name, most_bytes}
 use Rattle.job_files.specs.OutputFiles.{Texts}
 use Rattle.switch_run.specs.Switched.{AreTexts, IsPlanned}
-use Rattle.journal_command.specs.declared.ending.CheckEnding.{CheckEnding}
-use Rattle.journal_command.specs.declared.ending.CheckEnding.TheVariants as check_ending
+use Rattle.job_files.specs.declared.check_ending.CheckEnding.{CheckEnding}
+use Rattle.job_files.specs.declared.check_ending.CheckEnding.TheVariants as check_ending
 use Rattle.job_files.specs.declared.ending.Ending.{Ending}
 use Rattle.job_files.specs.declared.ending.Ending.TheVariants.{Done, Usage, ReadFault, TooLong, Refused, JournalTooLong, PacketsTooLong, OutOfMemory}
 use Rattle.job_files.specs.declared.ending.Ending.TheVariants.{WriteFault, Checked}

@@ -10,9 +10,9 @@ use Rattle.outside.proofs.Effects.{err_none}
 use Rattle.outside.proofs.Putting.{StopsAt-wider}
 use Rattle.eslip_rounds.specs.Schedulers.{Scheduler}
 use Rattle.named_schedulers.specs.Named.{decision_named}
-use Rattle.journal_command.specs.Checks.{MeansCheck}
-use Rattle.journal_command.specs.declared.ending.CheckEnding.{CheckEnding}
-use Rattle.journal_command.specs.declared.ending.CheckEnding.TheVariants as check_ending
+use Rattle.job_files.specs.Checks.{MeansCheck}
+use Rattle.job_files.specs.declared.check_ending.CheckEnding.{CheckEnding}
+use Rattle.job_files.specs.declared.check_ending.CheckEnding.TheVariants as check_ending
 use Rattle.switch_words.specs.Reading.{JobWords, run, gen, check, firm, RunWords}
 use Rattle.job_files.specs.Jobs.{ReadWords, reads_of, terms_in, input_name}
 use Rattle.job_files.specs.OutputFiles.{Texts, files_from, files_of, journal_files, packets_files, packets_place, put_files, put_texts, report_name, run_files}

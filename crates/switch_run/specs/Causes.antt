@@ -6,8 +6,8 @@ use Rattle.journal_check.specs.declared.verdict.Verdict.TheVariants as verdict
 use Rattle.journal_check.specs.declared.verdict.JournalFault.TheVariants as journal_fault
 use Rattle.journal_check.specs.declared.verdict.Reason.{Reason}
 use Rattle.journal_check.specs.Verdicts.{answer_under}
-use Rattle.journal_command.specs.Checks.{HasAnswer, IsTooLong as IsTooLongToCheck}
-use Rattle.journal_command.specs.declared.ending.CheckEnding.TheVariants as check_ending
+use Rattle.job_files.specs.Checks.{HasAnswer, IsTooLong as IsTooLongToCheck}
+use Rattle.job_files.specs.declared.check_ending.CheckEnding.TheVariants as check_ending
 use Rattle.switch_words.specs.declared.job.GenJob.{GenJob}
 use Rattle.switch_words.specs.Reading.{JobWords, run, gen, check, firm, RunWords, CheckWords, FirmWords}
 use Rattle.switch_plan.specs.declared.fault.PlanFault.{PlanFault}

@@ -5,8 +5,8 @@ use Rattle.std.specs.List.{list_any}
 use Rattle.outside.specs.Contents.{Contents, append_out}
 use Rattle.outside.specs.Faults.{Place, ReadOf, ToOut, ToErr, Rose}
 use Rattle.outside.specs.WholeFiles.{StopsAt}
-use Rattle.journal_command.specs.Checks.{MeansCheck}
-use Rattle.journal_command.specs.declared.ending.CheckEnding.{CheckEnding}
+use Rattle.job_files.specs.Checks.{MeansCheck}
+use Rattle.job_files.specs.declared.check_ending.CheckEnding.{CheckEnding}
 use Rattle.switch_words.specs.Options.{command_in}
 use Rattle.switch_words.specs.Reading.{JobWords, run, gen, check, firm, RunWords, CheckWords, reading_of}
 use Rattle.named_schedulers.specs.Named.{decision_named}

@@ -12,8 +12,10 @@ use crate::making::{RunWay, plan_and_run, summary_of_job};
 use crate::packets::PacketPieces;
 use crate::texts::{run_texts, summary_alone};
 use card_worker::Gate;
-use job_files::{Ending, JobTexts, made_inputs, read_inputs, reads_of_firm, reads_of_run};
-use journal_command::{CheckEnding, check_file};
+use job_files::{
+    CheckEnding, Ending, JobTexts, check_file, made_inputs, read_inputs, reads_of_firm,
+    reads_of_run,
+};
 use outside::Files;
 use run_notes::Wanted;
 use scheduler_names::SchedulerName;

@@ -4,12 +4,12 @@ ghost use Rattle.named_schedulers.specs.Named.{decision_named};
 ghost use Rattle.outside.specs.Contents.{AreAlike, Contents, held};
 ghost use Rattle.outside.specs.Faults.{NeverFall, NoneRose, OnlyRose};
 ghost use Rattle.journal_check.specs.declared.verdict.Verdict.TheVariants as verdict;
-ghost use Rattle.journal_command.specs.declared.ending.CheckEnding.TheVariants.{Yes};
-ghost use Rattle.journal_command.specs.Checks.{IsAnswered, MeansCheck, refused_by};
+ghost use Rattle.job_files.specs.declared.check_ending.CheckEnding.TheVariants.{Yes};
+ghost use Rattle.job_files.specs.Checks.{IsAnswered, MeansCheck, refused_by};
 
-use crate::ending::CheckEnding;
-use crate::reading::read_journal;
-use crate::telling::yes_lines;
+use crate::check_ending::CheckEnding;
+use crate::journal_file::read_journal;
+use crate::yes_lines::yes_lines;
 use journal_check::{JournalFault, Verdict, check_journal_by};
 use outside::{Files, put_out};
 use rotating_pick::LEVEL_COUNT;

@@ -2,7 +2,7 @@ ghost use Rattle.std.specs.Prelude.{◌≡◌, ◌∷◌, ◌++◌, map, decimal
 ghost use Rattle.std.specs.List.{flat_map};
 ghost use Rattle.slot_report.specs.Lines.{line_text};
 ghost use Rattle.slot_report.specs.PieceSteps.{after_space};
-ghost use Rattle.journal_command.specs.Checks.{yes_text};
+ghost use Rattle.job_files.specs.Checks.{yes_text};
 
 use itoa::Buffer;
 use rotating_pick::LEVEL_COUNT;

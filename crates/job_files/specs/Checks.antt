@@ -11,8 +11,8 @@ use Rattle.journal_check.specs.declared.verdict.Verdict.TheVariants as verdict
 use Rattle.journal_check.specs.declared.verdict.JournalFault.{JournalFault}
 use Rattle.journal_check.specs.declared.verdict.JournalFault.TheVariants as fault
 use Rattle.journal_check.specs.Verdicts.{answer_under}
-use Rattle.journal_command.specs.declared.ending.CheckEnding.{CheckEnding}
-use Rattle.journal_command.specs.declared.ending.CheckEnding.TheVariants.{Yes, No, Bad, TooLong, ReadFault, OutOfMemory, OutFault}
+use Rattle.job_files.specs.declared.check_ending.CheckEnding.{CheckEnding}
+use Rattle.job_files.specs.declared.check_ending.CheckEnding.TheVariants.{Yes, No, Bad, TooLong, ReadFault, OutOfMemory, OutFault}
 
 -- the file is there, and has more bytes than a journal file may have
 abbrev pub IsTooLong : Contents → List ℕ → Type 0

@@ -2,9 +2,9 @@ use Rattle.std.proofs.Common.{◌≡◌, ◌∙◌, Ok, sym, ap, inl, inr}
 use Rattle.named_schedulers.specs.Named.{decision_named}
 use Rattle.journal_check.specs.declared.verdict.Verdict.TheVariants as verdict
 use Rattle.journal_check.specs.Verdicts.{answer_under}
-use Rattle.journal_command.specs.Checks.{IsAnswered}
-use Rattle.journal_command.proofs.Later.{held_check, later_check, is_answered}
-use Rattle.journal_command.proofs.checking.check_file.Goals as goal
+use Rattle.job_files.specs.Checks.{IsAnswered}
+use Rattle.job_files.proofs.Later.{held_check, later_check, is_answered}
+use Rattle.job_files.proofs.check.check_file.Goals as goal
 
 pub returns-in-Err-clause-no_fault : goal.returns-in-Err-clause-no_fault
 returns-in-Err-clause-no_fault g c is = absurd (c.in-Err.ensures.no_yes is)

@@ -3,7 +3,7 @@ use Rattle.std.specs.Prelude.{decimal}
 use Rattle.std.proofs.lemmas.List.Folds.{flat_map-map}
 use Rattle.std_lemmas.proofs.Appending.{one_more, all_of}
 use Rattle.slot_report.specs.PieceSteps.{after_space}
-use Rattle.journal_command.proofs.telling.put_numbers.Goals as goal
+use Rattle.job_files.proofs.yes_lines.put_numbers.Goals as goal
 
 pub loop-number-preserved : goal.loop-number-preserved
 loop-number-preserved c = one_more (λ number. after_space (decimal number)) c.args.numbers.now c.loop-number.number-index _ (string_bytes c.args.text.now)

@@ -3,7 +3,7 @@ use Rattle.std.specs.Prelude.{codes, decimal}
 use Rattle.std.proofs.lemmas.Result.{on_ok_weaker}
 use Rattle.std_lemmas.proofs.Appending.{appended}
 use Rattle.slot_report.proofs.Appending.{whole_line}
-use Rattle.journal_command.proofs.telling.put_line.Goals as goal
+use Rattle.job_files.proofs.yes_lines.put_line.Goals as goal
 
 pub returns : goal.returns
 returns c =

@@ -2,10 +2,10 @@ ghost use Rattle.std.specs.Prelude.{◌≡◌, ◌≢◌, ◌≤◌, ℕ, List, 
 ghost use Rattle.eslip_rounds.specs.Schedulers.{Scheduler};
 ghost use Rattle.outside.specs.Contents.{AreAlike, Contents, Stays};
 ghost use Rattle.outside.specs.Faults.{NeverFall, NoneRose, OnlyRose};
-ghost use Rattle.journal_command.specs.declared.ending.CheckEnding.TheVariants.{Yes};
-ghost use Rattle.journal_command.specs.Checks.{MeansCheck, refused_by};
+ghost use Rattle.job_files.specs.declared.check_ending.CheckEnding.TheVariants.{Yes};
+ghost use Rattle.job_files.specs.Checks.{MeansCheck, refused_by};
 
-use crate::ending::CheckEnding;
+use crate::check_ending::CheckEnding;
 use journal_check::MAX_JOURNAL_BYTES;
 use outside::{Files, ReadFailure, read_buffer, read_whole};
 use std::alloc::Global;

@@ -10,9 +10,9 @@ use Rattle.journal_check.specs.declared.limits.TheConstants.{MAX_JOURNAL_BYTES}
 use Rattle.journal_check.specs.declared.verdict.Verdict.{Verdict}
 use Rattle.journal_check.specs.declared.verdict.JournalFault.{JournalFault}
 use Rattle.journal_check.specs.Verdicts.{answer_under}
-use Rattle.journal_command.specs.declared.ending.CheckEnding.{CheckEnding}
-use Rattle.journal_command.specs.declared.ending.CheckEnding.TheVariants.{Yes, No, Bad, TooLong, ReadFault, OutOfMemory, OutFault}
-use Rattle.journal_command.specs.Checks.{IsAnswered, MeansCheck}
+use Rattle.job_files.specs.declared.check_ending.CheckEnding.{CheckEnding}
+use Rattle.job_files.specs.declared.check_ending.CheckEnding.TheVariants.{Yes, No, Bad, TooLong, ReadFault, OutOfMemory, OutFault}
+use Rattle.job_files.specs.Checks.{IsAnswered, MeansCheck}
 
 -- the bytes that were read have the answer
 pub is_answered : (scheduler : Scheduler) (name bytes : List ℕ) (answer : Result Verdict JournalFault) (old : Option Contents)
