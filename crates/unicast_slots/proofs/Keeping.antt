@@ -219,8 +219,10 @@ module _ (rows new : List Row) (columns after : List ℕ) (asked later : ℕ) (k
       ))
       (named-of column (
         λ has. ((named j).0 has).1 refl,
-        λ some. (named j).1
-            ((kept.set.outputs j).1 (λ none. some (zero-no_members column
-            (λ i has. zero-has (slice_index columns j) i none ((leaves.2 i).0 has).1))), λ same. some),
+        λ some. (named j).1 (
+          (kept.set.outputs j).1 (λ none. some (zero-no_members column
+              (λ i has. zero-has (slice_index columns j) i none ((leaves.2 i).0 has).1))),
+          λ same. some,
+        ),
       )
       (λ k apart. (λ has. ((named k).0 has).0, λ old. (named k).1 (old, λ same. absurd (apart same))))))

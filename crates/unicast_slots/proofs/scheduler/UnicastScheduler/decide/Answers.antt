@@ -40,7 +40,7 @@ returns c t =
       whole = whole;
       at_ports = c.meet.ensures.at_ports;
       unused = nothing_added n rounds t rows places now (record { numbers = made.numbers; first_outputs = made.first_outputs }) can.rounds_some are
-      c.ports.ensures.at_ports can.pointers can.within;
+          c.ports.ensures.at_ports can.pointers can.within;
       enough = enough_rounds n rounds t rows places now (record { numbers = made.numbers; first_outputs = made.first_outputs }) can.rounds_some are
-      c.ports.ensures.at_ports can.pointers can.within;
+          c.ports.ensures.at_ports can.pointers can.within;
     }
