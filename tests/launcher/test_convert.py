@@ -175,6 +175,16 @@ class Convert(Scene):
             self.assertEqual(is_nano(str(self.jobs / "c.pcapng")), is_fine)
 
 
+def all_of(terminal):
+    """What came to a terminal whose other end is closed. One read may give a part of it."""
+    came = b""
+    while True:
+        try:
+            came += os.read(terminal, 4096)
+        except OSError:
+            return came
+
+
 class Shown(Scene):
     def run_on_terminal(self, **streams):
         """Runs some seconds with what is shown going to a terminal; the words that end it, and what the terminal had."""
@@ -187,7 +197,7 @@ class Shown(Scene):
         ran = subprocess.run(words, cwd=self.jobs, env=variables, stderr=theirs, **{"stdout": theirs, **streams})
         os.close(theirs)
         self.assertEqual(ran.returncode, 0)
-        return ran, os.read(ours, 4096)
+        return ran, all_of(ours)
 
     def test_terminal(self):
         """Each second of a run a line of the terminal has what was read and written; what the program writes is the same."""
