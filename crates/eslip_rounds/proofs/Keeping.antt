@@ -1,5 +1,5 @@
 -- Columns that are kept: what they say of the rows, and a change of one row, set after set.
-use Rattle.std.proofs.Common.{◌≡◌, ◌≢◌, ℕ, ◌+◌, ◌<◌, ◌≤◌, ◌↔◌, ◌∙◌, List, [], length, slice_index, slice_index_or, slice_set, take, replicate, sym, ap, subst}
+use Rattle.std.proofs.Common.{◌≡◌, ◌≢◌, ℕ, ◌+◌, ◌<◌, ◌≤◌, ◌↔◌, ◌∙◌, List, [], length, slice_index, slice_index_or, slice_set, take, replicate, refl, sym, ap, subst}
 use Rattle.std.proofs.Common.{inl, inr, arith, length-set, get_or-set_same, get_or-set_other}
 use Rattle.std.proofs.lemmas.Bool.{cases_eq, cases_lt}
 use Rattle.std.proofs.lemmas.List.{get_or-take, length-take, get_or_past, get_or-replicate, length-replicate}
@@ -10,7 +10,7 @@ use Rattle.rotating_pick.specs.declared.kinds.Kind.TheVariants.{Uni, Multi}
 use Rattle.rotating_pick.specs.declared.limits.TheConstants.{LEVELS, MAX_PORTS}
 use Rattle.rotating_pick.proofs.Picking.{least}
 use Rattle.slot_match.specs.declared.rows.Row.{Row}
-use Rattle.slot_match.specs.Rows.{Names, empty_row, no_row, row_of, AreWithin}
+use Rattle.slot_match.specs.Rows.{Names, sets_of, empty_row, no_row, row_of, AreWithin}
 use Rattle.slot_match.proofs.Sets.{zero-has, Has-or}
 use Rattle.rotating_pick.proofs.Bits.{zero-no_members}
 use Rattle.rotating_pick.proofs.Tables.{no_members}
@@ -18,10 +18,10 @@ use Rattle.eslip_rounds.specs.declared.asks.Asks.{Asks}
 use Rattle.eslip_rounds.specs.declared.ranks.TheConstants.{SETS}
 use Rattle.eslip_rounds.specs.RankSteps.{level_at, kind_at}
 use Rattle.eslip_rounds.specs.Steps.{AreAsks}
-use Rattle.eslip_rounds.specs.ColumnSteps.{IsTurned, AreOutputs, IsKeptSet, AreKept}
+use Rattle.eslip_rounds.specs.ColumnSteps.{with_set, IsTurned, AreOutputs, IsKeptSet, AreKept}
 
 -- of the first n rows
-row_of-take : (n : ℕ) (rows : List Row) (i : ℕ) → i < n → row_of (take n rows) i ≡ row_of rows i
+pub row_of-take : (n : ℕ) (rows : List Row) (i : ℕ) → i < n → row_of (take n rows) i ≡ row_of rows i
 row_of-take n rows i i_in = get_or-take n rows i no_row i_in
 
 module _ (n : ℕ) (rows : List Row) (asks : Asks) (kept : AreKept n rows asks) (within : AreWithin n (take n rows)) where
@@ -154,6 +154,70 @@ pub AreKept-changed : (n k : ℕ) (rows changed : List Row) (asks : Asks) → 0 
     → AreChanging n k rows changed asks → AreKept n changed asks
 AreKept-changed n k rows changed asks some size long all known =
     record { some = some; size = size; long = long; sets = known.sets; words = known.words; each = λ set set_in. known.done set (omega arith) }
+
+-- a row with one set replaced names in all other sets what it named
+pub with_set-others : (row : Row) (level : ℕ) (kind : Kind) (outputs l : ℕ) (k : Kind) → (l ≡ level → k ≡ kind → ⊥)
+    → slice_index (sets_of (with_set row level kind outputs) k) l ≡ slice_index (sets_of row k) l
+with_set-others row level Uni outputs l Uni apart = get_or-set_other row.uni level l outputs 0 (λ same. apart same refl)
+with_set-others row level Uni outputs l Multi apart = refl
+with_set-others row level Multi outputs l Uni apart = refl
+with_set-others row level Multi outputs l Multi apart = get_or-set_other row.multi level l outputs 0 (λ same. apart same refl)
+
+-- the columns of one set, where the row of one input is another one that names the same outputs there
+IsKeptSet-same : (n input : ℕ) (rows : List Row) (row : Row) (set : ℕ) (table : List ℕ) (named : ℕ) → input < length rows
+    → slice_index (sets_of row (kind_at Uni set)) (level_at set) ≡ slice_index (sets_of (row_of rows input) (kind_at Uni set)) (level_at set)
+    → IsKeptSet n rows set table named → IsKeptSet n (slice_set rows input row) set table named
+IsKeptSet-same n input rows row set table named inside same kept =
+    let outputs_of : Row → ℕ = λ r. slice_index (sets_of r (kind_at Uni set)) (level_at set) in
+    let stays : (i : ℕ) → outputs_of (row_of (slice_set rows input row) i) ≡ outputs_of (row_of rows i) = λ i. elim (cases_eq i input) [
+      | inl here ↦
+          let P : ℕ → Type 0 = λ x. outputs_of (row_of (slice_set rows input row) x) ≡ outputs_of (row_of rows x) in
+          subst P (sym here) (ap outputs_of (get_or-set_same rows input row no_row inside) ∙ same)
+      | inr apart ↦ ap outputs_of (get_or-set_other rows input i row no_row apart)
+    ] in
+    record {
+      long = kept.long;
+      columns = λ i j j_in.
+          let k = kept.columns i j j_in in
+          let P : ℕ → Type 0 = λ s. Has s j in (
+            λ has. let p = k.0 has in (p.0, subst P (sym (stays i)) p.1),
+            λ p. k.1 (p.0, subst P (stays i) p.1),
+          );
+      outputs = kept.outputs;
+    }
+
+-- the tables after a change of one set, where the new row names in all others what the old one did
+pub AreKept-set : (n input set : ℕ) (rows : List Row) (row : Row) (before after : Asks) (table : List ℕ) (named : ℕ) → set < SETS → input < n
+    → AreKept n rows before → after.columns ≡ slice_set before.columns set table → after.outputs ≡ slice_set before.outputs set named
+    → ((s : ℕ) → (s ≡ set → ⊥) → slice_index (sets_of row (kind_at Uni s)) (level_at s)
+    ≡ slice_index (sets_of (row_of rows input) (kind_at Uni s)) (level_at s))
+    → IsKeptSet n (slice_set rows input row) set table named → AreKept n (slice_set rows input row) after
+AreKept-set n input set rows row before after table named set_in input_in kept columns outputs same changed =
+    let inside : input < length rows = let long = kept.long in let size = kept.size in omega arith in
+    let in_columns : set < length before.columns = let long = kept.sets in omega arith in
+    let in_outputs : set < length before.outputs = let long = kept.words in omega arith in
+    let at : (s : ℕ) → List ℕ → ℕ → Type 0 = λ s a x. IsKeptSet n (slice_set rows input row) s a x in
+    let along : (s : ℕ) (a b : List ℕ) (x y : ℕ) → b ≡ a → y ≡ x → at s a x → at s b y = λ s a b x y e d h.
+    subst (λ z. at s b z) (sym d) (subst (λ (z : List ℕ). at s z x) (sym e) h) in
+    record {
+      some = kept.some;
+      size = kept.size;
+      long = length-set rows input row ∙ kept.long;
+      sets = ap length columns ∙ (length-set before.columns set table ∙ kept.sets);
+      words = ap length outputs ∙ (length-set before.outputs set named ∙ kept.words);
+      each = λ s s_in. elim (cases_eq s set) [
+        | inl here ↦
+            let P : ℕ → Type 0 = λ x. at x (slice_index_or after.columns x []) (slice_index after.outputs x) in
+            subst P (sym here) (along set table (slice_index_or after.columns set []) named (slice_index after.outputs set)
+            (ap (λ c. slice_index_or c set []) columns ∙ get_or-set_same before.columns set table [] in_columns)
+            (ap (λ o. slice_index o set) outputs ∙ get_or-set_same before.outputs set named 0 in_outputs) changed)
+        | inr apart ↦
+            along s (slice_index_or before.columns s []) (slice_index_or after.columns s []) (slice_index before.outputs s) (slice_index after.outputs s)
+            (ap (λ c. slice_index_or c s []) columns ∙ get_or-set_other before.columns set s table [] apart)
+            (ap (λ o. slice_index o s) outputs ∙ get_or-set_other before.outputs set s named 0 apart)
+            (IsKeptSet-same n input rows row s (slice_index_or before.columns s []) (slice_index before.outputs s) inside (same s apart) (kept.each s s_in))
+      ];
+    }
 
 -- as many rows are seen as the switch has ports
 pub length-seen : (n : ℕ) (rows : List Row) → n ≤ MAX_PORTS → length rows ≡ MAX_PORTS → length (take n rows) ≡ n

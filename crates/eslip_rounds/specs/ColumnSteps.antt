@@ -1,13 +1,19 @@
 -- What columns that are kept hold, and what a change of one row does to them.
-use Rattle.std.specs.Prelude.{◌≡◌, ◌≢◌, ℕ, ◌<◌, ◌≤◌, ◌↔◌, ◌⊎◌, List, [], length, slice_index, slice_index_or}
+use Rattle.std.specs.Prelude.{◌≡◌, ◌≢◌, ℕ, ◌<◌, ◌≤◌, ◌↔◌, ◌⊎◌, List, [], length, slice_index, slice_index_or, slice_set}
 use Rattle.rotating_pick.specs.PortSets.{Has}
-use Rattle.rotating_pick.specs.declared.kinds.Kind.TheVariants.{Uni}
+use Rattle.rotating_pick.specs.declared.kinds.Kind.{Kind}
+use Rattle.rotating_pick.specs.declared.kinds.Kind.TheVariants.{Uni, Multi}
 use Rattle.rotating_pick.specs.declared.limits.TheConstants.{MAX_PORTS}
 use Rattle.slot_match.specs.declared.rows.Row.{Row}
 use Rattle.slot_match.specs.Rows.{Names, row_of}
 use Rattle.eslip_rounds.specs.declared.asks.Asks.{Asks}
 use Rattle.eslip_rounds.specs.declared.ranks.TheConstants.{SETS}
 use Rattle.eslip_rounds.specs.RankSteps.{level_at, kind_at}
+
+-- the row with these outputs in the place of those that it names at the level with the kind
+abbrev pub with_set : Row → ℕ → Kind → ℕ → Row
+with_set row level Uni outputs = record { uni = slice_set row.uni level outputs; multi = row.multi }
+with_set row level Multi outputs = record { uni = row.uni; multi = slice_set row.multi level outputs }
 
 -- after it the input is in the columns of the outputs `new`, and all other inputs are where they were
 abbrev pub IsTurned : ℕ → ℕ → List ℕ → List ℕ → Type 0

@@ -1,14 +1,14 @@
 ghost use Rattle.std.specs.Prelude.{◌≡◌, ℕ, ◌<◌, ◌≤◌, ◌↔◌, length, replicate, slice_index, slice_set};
 ghost use Rattle.rotating_pick.specs.PortSets.{Has};
-ghost use Rattle.slot_match.specs.Rows.{empty_row, AreWithin};
+ghost use Rattle.slot_match.specs.Rows.{sets_of, empty_row, row_of, AreWithin};
 ghost use Rattle.eslip_rounds.specs.Steps.{AreAsks};
-ghost use Rattle.eslip_rounds.specs.ColumnSteps.{IsTurned, AreOutputs};
+ghost use Rattle.eslip_rounds.specs.ColumnSteps.{with_set, IsTurned, AreOutputs};
 
 use crate::asks::Asks;
-use crate::ranks::{SETS, kind_of, level_of};
+use crate::ranks::{SETS, kind_of, level_of, set_at_level};
 use rotating_pick::{
-    Kind, MAX_PORTS, PORT_COUNT, Ports, contains, difference, is_empty, lowest, union, with,
-    without,
+    Kind, LEVELS, MAX_PORTS, PORT_COUNT, Ports, contains, difference, is_empty, lowest, union,
+    with, without,
 };
 use slot_match::Row;
 use std::marker::Model;
@@ -75,6 +75,22 @@ impl Columns {
         self.rows[input as usize] = *row;
     }
 
+    /// Puts another set of outputs in the place of the one that the input's row names at the level, 0 to 3, with the
+    /// kind. It takes a step for each output in which they differ.
+    pub fn change_set(&mut self, input: u32, level: u8, kind: Kind, outputs: Ports)
+        requires input_in { input < length self.old }
+        requires level_in { level < LEVELS }
+        ensures { self.new ≡ slice_set self.old input (with_set (row_of self.old input) level kind outputs) }
+    {
+        let row = &mut self.rows[input as usize];
+        let old = row.outputs(level, kind);
+        put_set(row, level, kind, outputs);
+        let set = set_at_level(level, kind);
+        let columns = &mut self.asks.columns[set];
+        let named = &mut self.asks.outputs[set];
+        turn(input, old, outputs, columns, named);
+    }
+
     // What the rows ask.
     pub(crate) fn asks(&self) -> &Asks
         ensures { AreWithin (length self.now) self.now → AreAsks (length self.now) self.now result.now }
@@ -87,6 +103,18 @@ fn empty_rows() -> [Row; PORT_COUNT]
     ensures { result ≡ replicate MAX_PORTS empty_row }
 {
     [Row::empty(); PORT_COUNT]
+}
+
+// Puts the outputs in the place of those that the row names at the level with the kind.
+fn put_set(row: &mut Row, level: u8, kind: Kind, outputs: Ports)
+    requires { level < LEVELS }
+    ensures row { row.new ≡ with_set row.old level kind outputs }
+    ensures set { slice_index (sets_of row.new kind) level ≡ outputs }
+{
+    match kind {
+        Kind::Uni => row.uni[usize::from(level)] = outputs,
+        Kind::Multi => row.multi[usize::from(level)] = outputs,
+    }
 }
 
 // Notes in the columns of one set that the input names the outputs `new` in the place of `old`.

@@ -1,7 +1,8 @@
 ghost use Rattle.std.specs.Prelude.{◌≡◌, ◌+◌, ◌*◌, ◌<◌};
+ghost use Rattle.rotating_pick.specs.declared.kinds.Kind.TheVariants.{Uni};
 ghost use Rattle.rotating_pick.specs.declared.limits.TheConstants.{LEVELS};
 ghost use Rattle.eslip_rounds.specs.Rounds.{preferred};
-ghost use Rattle.eslip_rounds.specs.RankSteps.{level_at, kind_at, set_at};
+ghost use Rattle.eslip_rounds.specs.RankSteps.{level_at, kind_at, rank_of, set_at};
 ghost use Rattle.eslip_rounds.specs.Rounds.{other_kind};
 
 use rotating_pick::{Kind, MAX_PORTS};
@@ -54,6 +55,18 @@ pub(crate) fn set_of(first_kind: Kind, rank: u32) -> usize
     match first_kind {
         Kind::Uni => rank as usize,
         Kind::Multi => other as usize,
+    }
+}
+
+/// The set of the level and kind.
+pub(crate) fn set_at_level(level: u8, kind: Kind) -> usize
+    requires { level < LEVELS }
+    ensures value { result ≡ rank_of Uni level kind }
+    ensures set_in { result < SETS }
+{
+    match kind {
+        Kind::Uni => level as usize * 2,
+        Kind::Multi => set_of_heads(level),
     }
 }
 
