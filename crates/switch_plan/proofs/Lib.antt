@@ -29,3 +29,4 @@ pub mod Endings
 pub mod SlotLimits
 pub mod Bursts
 pub mod Countable
+pub mod InTurn

@@ -34,8 +34,8 @@ use switch_words::Settings;
 /// job or of a burst as the settings say, and that of the table and the captures; a fault is the first cause to
 /// refuse them, and a job that is to be refused is refused.
 ///
-/// Each capture is read and planned by itself, in threads where there are some. The cards keep the bytes of the
-/// captures, of which none are copied.
+/// Each capture is read and planned by itself, in threads where there are some and a capture is not small. The cards
+/// keep the bytes of the captures, of which none are copied.
 pub fn plan<R: Threads + Sync>(
     rt: &R,
     alloc: Global,

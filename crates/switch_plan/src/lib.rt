@@ -2,6 +2,7 @@
 //! captures, and the first reason to refuse it.
 #![tactic(auto)]
 
+mod by_port;
 mod checking;
 mod fault;
 pub mod jobs;

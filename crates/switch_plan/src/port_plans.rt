@@ -6,6 +6,7 @@ ghost use Rattle.switch_plan.specs.ReadingSteps.{IsTrafficOf};
 ghost use Rattle.switch_plan.specs.CountingSteps.{IsForwardable, AreCountable};
 ghost use Rattle.switch_plan.specs.PortSteps.{CanBePlanned, IsPortPlanOf, ArePlannedAs, ArePortPlansOf, slots_at};
 
+use crate::by_port::{SMALL_CAPTURE, map_ports};
 use crate::port_rooms::{Brought, brought_by};
 use crate::traffic::stamp_of;
 use card_core::Planned;
@@ -16,7 +17,6 @@ use line_pace::Pace;
 use pcap_records::{Capture, Link, Stored};
 use rotating_pick::{OutOfMemory, Ports};
 use std::alloc::{AllocError, Global};
-use std::thread;
 use std::thread::Threads;
 
 /// What a port is to send, before it is known what comes to its output.
@@ -32,7 +32,8 @@ pub(crate) struct PortPlan {
     pub(crate) brought: Brought,
 }
 
-/// The ports of all captures, each planned by itself, in threads where there are some. The only error is want of memory.
+/// The ports of all captures, each planned by itself, in threads where there are some and a capture is not small. The
+/// only error is want of memory.
 pub(crate) fn port_plans<R: Threads + Sync>(
     rt: &R,
     alloc: Global,
@@ -59,8 +60,13 @@ fn plan_each<R: Threads + Sync>(
     requires captures { All (CanBePlanned pace) captures.items }
     ensures { IfOk result (λ answers. ArePlannedAs table.now pace captures.items answers.items) }
 {
-    thread::map_vec(
+    let small = captures
+        .iter()
+        .all(|capture| capture.bytes.len() <= SMALL_CAPTURE);
+    map_ports(
         rt,
+        alloc,
+        small,
         captures,
         &|capture| port_plan(alloc, table, pace, capture),
     )

@@ -3,15 +3,15 @@ ghost use Rattle.pcap_records.specs.declared.fault.PcapFault.{PcapFault};
 ghost use Rattle.switch_plan.specs.Refusals.{IsFirstFault};
 ghost use Rattle.switch_plan.specs.ReadingSteps.{bytes_of_files, IsReadAs, AreReadAs, AreCapturesOf};
 
+use crate::by_port::{SMALL_CAPTURE, map_ports};
 use crate::fault::PlanFault;
 use pcap_records::{Capture, PcapFault, read_capture};
 use rotating_pick::MAX_PORTS;
 use std::alloc::{AllocError, Global};
-use std::thread;
 use std::thread::Threads;
 
-/// The captures of all ports. Each file is read by itself, in threads where there are some; the first
-/// that is none is answered with its fault.
+/// The captures of all ports. Each file is read by itself, in threads where there are some and a file is not
+/// small; the first that is none is answered with its fault.
 pub(crate) fn read_captures<R: Threads + Sync>(
     rt: &R,
     alloc: Global,
@@ -36,7 +36,8 @@ fn read_each<R: Threads + Sync>(
     requires sizes { All (λ file. vec_len file < 2 ^ 32) files.items }
     ensures { IfOk result (λ answers. AreReadAs (bytes_of_files files) answers.items) }
 {
-    thread::map_vec(rt, files, &|file| read_one(alloc, file))
+    let small = files.iter().all(|file| file.len() <= SMALL_CAPTURE);
+    map_ports(rt, alloc, small, files, &|file| read_one(alloc, file))
 }
 
 // Reads a file.
