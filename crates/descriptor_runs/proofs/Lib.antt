@@ -1,5 +1,6 @@
 pub mod ServedInputs
 pub mod InputPorts
+pub mod ChangedSets
 pub mod Arriving
 pub mod Letting
 pub mod Granting

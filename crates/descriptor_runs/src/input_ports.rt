@@ -2,6 +2,7 @@ ghost use Rattle.std.specs.Prelude.{◌≡◌, ◌≢◌, ℕ, ◌+◌, ◌^◌,
 ghost use Rattle.rotating_pick.specs.PortSets.{Has};
 ghost use Rattle.rotating_pick.specs.declared.limits.TheConstants.{MAX_PORTS};
 ghost use Rattle.eslip_rounds.specs.Schedulers.{Scheduler};
+ghost use Rattle.slot_match.specs.declared.rows.Row.{Row};
 ghost use Rattle.slot_match.specs.declared.matching.Served.{Served as APart};
 ghost use Rattle.multicast_queue.specs.FanQueues.{first_name};
 ghost use Rattle.slot_histories.specs.Parts.{IsPartOf};
@@ -10,7 +11,7 @@ ghost use Rattle.card_core.specs.Plans.{IsGoodPlan, plan_of};
 ghost use Rattle.card_core.specs.Queues.{waiting, queue_in};
 ghost use Rattle.card_core.specs.Posts.{queue_served};
 ghost use Rattle.switch_plan.specs.GoodPlans.{SwitchPlan};
-ghost use Rattle.descriptor_runs.specs.InputSteps.{InputValue, HasServed, next_slot, row_in};
+ghost use Rattle.descriptor_runs.specs.InputSteps.{InputValue, HasServed, ChangesAt, next_slot, row_in};
 ghost use Rattle.descriptor_runs.specs.PortSteps.{IsFirst, earlier_of};
 ghost use Rattle.descriptor_runs.specs.SwitchSteps.{AreInputs, IsActivity};
 
@@ -20,7 +21,7 @@ use crate::switch::Activity;
 use card_core::CardPlan;
 use cell_cutter::CellName;
 use eslip_rounds::Columns;
-use rotating_pick::{OutOfMemory, Ports, with};
+use rotating_pick::{Kind, OutOfMemory, Ports, with};
 use slot_match::Served;
 use std::alloc::Global;
 use std::marker::Model;
@@ -133,7 +134,12 @@ impl InputPorts {
     {
         let input = &mut self.inputs[port as usize];
         let name = input.leave(part);
-        self.requests.change(port, &input.row());
+        follow(
+            &mut self.requests,
+            port,
+            input,
+            Some((part.level, part.kind)),
+        );
         name
     }
 }
@@ -188,7 +194,7 @@ fn take_arrivals(inputs: &mut [Input], requests: &mut Requests, slot: u32) -> (P
     (came, next)
 }
 
-// Lets in the packet of the slot, if one arrives in it at the input of this port, and brings the row of the queues up to date.
+// Lets in the packet of the slot, if one arrives in it at the input of this port, and brings what the queues ask up to date.
 // Answers whether one came.
 fn let_in(input: &mut Input, requests: &mut Requests, port: u32, slot: u32) -> bool
     requires served { (served : List (Option APart)) × HasServed input.old served false × (slot ≡ length served) × (slot + 1 < 2 ^ 32) }
@@ -200,10 +206,20 @@ fn let_in(input: &mut Input, requests: &mut Requests, port: u32, slot: u32) -> b
 {
     let comes = input.next_slot() == Some(slot);
     if comes {
-        input.arrive(slot);
-        requests.change(port, &input.row());
+        let changed = input.arrive(slot);
+        follow(requests, port, input, changed);
     }
     comes
+}
+
+// Brings what the input of this port asks up to date, whose row changed in no set but that of this queue, or not at all.
+fn follow(requests: &mut Requests, port: u32, input: &Input, changed: Option<(u8, Kind)>)
+    requires { (before : Row) × (slice_get requests.old port ≡ Some before) × ChangesAt before (row_in input.now) changed }
+    ensures { requests.new ≡ slice_set requests.old port (row_in input.now) }
+{
+    if let Some((level, kind)) = changed {
+        requests.change_set(port, level, kind, input.outputs(level, kind));
+    }
 }
 
 // The earlier of two slots, of which there may be none.

@@ -1,17 +1,18 @@
-ghost use Rattle.std.specs.Prelude.{◌≡◌, ◌+◌, ◌^◌, ◌<◌, nat_lt, List, [], ◌∷◌, ◌++◌, true, false, Option, Some, IfOk, length, slice_get};
+ghost use Rattle.std.specs.Prelude.{◌≡◌, ◌+◌, ◌^◌, ◌<◌, nat_lt, List, [], ◌∷◌, ◌++◌, true, false, Option, Some, IfOk, length, slice_get, slice_index};
 ghost use Rattle.slot_match.specs.declared.matching.Served.{Served as APart};
+ghost use Rattle.slot_match.specs.Rows.{sets_of};
 ghost use Rattle.multicast_queue.specs.FanQueues.{first_name};
 ghost use Rattle.slot_histories.specs.Parts.{IsPartOf};
 ghost use Rattle.card_core.specs.Plans.{IsGoodPlan, plan_of};
 ghost use Rattle.card_core.specs.Queues.{waiting, queue_in};
 ghost use Rattle.card_core.specs.Posts.{queue_served};
 ghost use Rattle.card_core.specs.StateSteps.{HasRooms};
-ghost use Rattle.descriptor_runs.specs.InputSteps.{HasServed, next_slot, row_in};
+ghost use Rattle.descriptor_runs.specs.InputSteps.{HasServed, ChangesAt, IsQueueOf, next_slot, row_in};
 
 use card_core::{CardPlan, Planned, Queues, Rooms};
 use cell_cutter::{CellName, cells_of};
-use rotating_pick::{OutOfMemory, is_empty};
-use slot_match::{Row, Served};
+use rotating_pick::{Kind, LEVELS, OutOfMemory, Ports, is_empty, only};
+use slot_match::Served;
 use std::alloc::Global;
 use std::marker::Model;
 
@@ -61,11 +62,12 @@ impl Input {
         })
     }
 
-    /// The row of the queues.
-    pub(crate) fn row(&self) -> Row
-        ensures { result ≡ row_in self.now }
+    /// The outputs that the row of the queues names at the level, 0 to 3, with the kind.
+    pub(crate) fn outputs(&self, level: u8, kind: Kind) -> Ports
+        requires { level < LEVELS }
+        ensures { result ≡ slice_index (sets_of (row_in self.now) kind) level }
     {
-        self.queues.row()
+        self.queues.row().outputs(level, kind)
     }
 
     /// The slot in which the next packet arrives, if one is to come.
@@ -113,12 +115,14 @@ impl Input {
     }
 
     /// The next packet arrives, which is that of slot `slot`: it enters its queue if it goes anywhere and fits.
-    pub(crate) fn arrive(&mut self, slot: u32)
+    /// Answers the level and the kind of that queue, none where it goes nowhere.
+    pub(crate) fn arrive(&mut self, slot: u32) -> Option<(u8, Kind)>
         requires { (served : List (Option APart)) × HasServed self.old served false × (slot ≡ length served) × (next_slot self.old ≡ Some slot)
             × (slot + 1 < 2 ^ 32) }
         ensures plan { self.new.plan ≡ self.old.plan }
         ensures arrived { (served : List (Option APart)) → HasServed self.old served false → slot ≡ length served → next_slot self.old ≡ Some slot
             → HasServed self.new served true }
+        ensures changed { ChangesAt (row_in self.old) (row_in self.new) result }
     {
         let packet = self.plan.packets[self.next as usize];
         if !is_empty(packet.fan) {
@@ -133,6 +137,7 @@ impl Input {
             }
         }
         self.next += 1;
+        queue_of(packet.level, packet.fan)
     }
 
     /// Takes what was served off its queue. Answers the name of the cell that was its first.
@@ -142,6 +147,7 @@ impl Input {
         ensures next { self.new.next ≡ self.old.next }
         ensures left { (served : List (Option APart)) → HasServed self.old served true → IsPartOf (row_in self.old) part
             → HasServed self.new (served ++ Some part ∷ []) false }
+        ensures changed { ChangesAt (row_in self.old) (row_in self.new) (Some (part.level, part.kind)) }
         ensures name { (served : List (Option APart)) → HasServed self.old served true → IsPartOf (row_in self.old) part
             → Some result ≡ first_name (waiting (queue_in self.old.plan (queue_served part) served (length served))) }
     {
@@ -153,6 +159,19 @@ impl Input {
         ensures { result ≡ nat_lt self.now.next (length self.now.plan.packets) }
     {
         (self.next as usize) < self.plan.packets.len()
+    }
+}
+
+// The level and the kind of the queue that a packet of the level for these outputs enters, none where it goes nowhere.
+fn queue_of(level: u8, fan: Ports) -> Option<(u8, Kind)>
+    ensures { IsQueueOf level fan result }
+{
+    if is_empty(fan) {
+        return None;
+    }
+    match only(fan) {
+        Some(_) => Some((level, Kind::Uni)),
+        None => Some((level, Kind::Multi)),
     }
 }
 

@@ -1,10 +1,10 @@
 ghost use Rattle.std.specs.Prelude.{◌≡◌, ℕ, ◌<◌, ◌≤◌, ◌↔◌, IsTrue, length, replicate, slice_set};
-ghost use Rattle.slot_match.specs.Rows.{empty_row};
+ghost use Rattle.slot_match.specs.Rows.{empty_row, row_of};
+ghost use Rattle.eslip_rounds.specs.ColumnSteps.{with_set};
 ghost use Rattle.descriptor_runs.specs.PortSteps.{AsksAt};
 
 use eslip_rounds::Columns;
-use rotating_pick::{MAX_PORTS, Ports, is_empty, with, without};
-use slot_match::Row;
+use rotating_pick::{Kind, LEVELS, MAX_PORTS, Ports, is_empty, with, without};
 use std::marker::Model;
 
 /// What the inputs of a switch ask for: the rows of their queues, kept by columns, and which inputs ask for an output.
@@ -56,12 +56,14 @@ impl Requests {
         !is_empty(self.asking)
     }
 
-    /// Puts another row in the place of the input's.
-    pub(crate) fn change(&mut self, input: u32, row: &Row)
-        requires { input < length self.old }
-        ensures { self.new ≡ slice_set self.old input row.now }
+    /// Puts another set of outputs in the place of the one that the input asks at the level, 0 to 3, with the kind.
+    pub(crate) fn change_set(&mut self, input: u32, level: u8, kind: Kind, outputs: Ports)
+        requires input_in { input < length self.old }
+        requires level_in { level < LEVELS }
+        ensures { self.new ≡ slice_set self.old input (with_set (row_of self.old input) level kind outputs) }
     {
-        self.columns.change(input, row);
+        self.columns.change_set(input, level, kind, outputs);
+        let row = self.columns.rows()[input as usize];
         self.asking = if row.is_empty() {
             without(self.asking, input)
         } else {

@@ -1,23 +1,22 @@
 use Rattle.std.proofs.Common.{◌∙◌, Some, sym, ap}
 use Rattle.std.proofs.lemmas.Bool.{both_ways}
-use Rattle.std.proofs.lemmas.Option.{slice_get_within}
 use Rattle.descriptor_runs.specs.InputSteps.{row_in}
 use Rattle.descriptor_runs.proofs.Arriving.{is-now, not-now}
 use Rattle.descriptor_runs.proofs.InputPorts.{rows-same}
 use Rattle.descriptor_runs.proofs.ServedInputs.{none_arrives}
 use Rattle.descriptor_runs.proofs.input_ports.let_in.Goals as goal
 
-pub arrive-requires : goal.arrive-requires
-arrive-requires c =
+pub arrive-changed-requires : goal.arrive-changed-requires
+arrive-changed-requires c =
     let (served, was, is, few) = c.requires.served in
     (served, was, is, sym c.next_slot.ensures ∙ is-now c.next_slot.result c.args.slot c.eq-comes.result c.eq-comes.ensures c.if-comes.true, few)
 
-pub change-requires : goal.change-requires
-change-requires c = slice_get_within c.args.requests.now c.args.port (row_in c.args.input.now) c.requires.row
+pub follow-requires : goal.follow-requires
+follow-requires c = (row_in c.args.input.now, c.requires.row, c.arrive-changed.ensures.changed)
 
 pub returns-then-comes-clause-arrived : goal.returns-then-comes-clause-arrived
 returns-then-comes-clause-arrived c = λ served was is.
-    c.arrive.ensures.arrived served was is
+    c.arrive-changed.ensures.arrived served was is
     (sym c.next_slot.ensures ∙ is-now c.next_slot.result c.args.slot c.eq-comes.result c.eq-comes.ensures c.if-comes.true)
 
 pub returns-then-comes-clause-same : goal.returns-then-comes-clause-same

@@ -1,7 +1,7 @@
 use Rattle.std.proofs.Common.{◌≡◌, ◌∙◌, ℕ, true, List, length, map, set, get_or, Option, Some, sym, ap, subst, arith}
 use Rattle.std.specs.Prelude.{slice_get}
 use Rattle.std.specs.Option.{option_map}
-use Rattle.std.proofs.lemmas.List.{length-map, length-set}
+use Rattle.std.proofs.lemmas.List.{length-set}
 use Rattle.std.proofs.lemmas.Option.{slice_get-get_or, slice_get_within, same_Some}
 use Rattle.std.proofs.Math.Seq.{map-set_same}
 use Rattle.std_lemmas.proofs.Lists.{get-set_same, get-set_other}
@@ -16,7 +16,7 @@ use Rattle.card_core.specs.Posts.{queue_served}
 use Rattle.descriptor_runs.specs.InputSteps.{InputValue, HasServed, next_slot, row_in}
 use Rattle.descriptor_runs.specs.PortSteps.{IsFirst}
 use Rattle.descriptor_runs.proofs.Arriving.{first-stays}
-use Rattle.descriptor_runs.proofs.InputPorts.{rows-set}
+use Rattle.descriptor_runs.proofs.InputPorts.{row-there, rows-set}
 use Rattle.descriptor_runs.proofs.input_ports.InputPorts.leave.Goals as goal
 
 -- what is read at a port is the input that is there
@@ -69,14 +69,18 @@ leave-name-requires c =
       part-there inputs c.args.self.now c.args.port found given c.self.view_is is at c.args.part may,
     )
 
-pub change-requires : goal.change-requires
-change-requires c =
+pub follow-requires : goal.follow-requires
+follow-requires c =
     let (given, served, at, was, may) = c.requires in
-    let below = slice_get_within c.args.self.now c.args.port given at in
-    let same = ap length c.self.view_is in
-    let rows = ap length c.self.invariant.rows_are in
-    let long = length-map c.self.inside.inputs.items row_in in
-    omega arith
+    let inputs : List InputValue = c.self.inside.inputs.items in
+    let port = c.args.port in
+    let found : InputValue = c.index_mut-input.result.now in
+    let is = is-found inputs c.args.self.now port found given c.self.view_is c.index_mut-input.ensures.value at in
+    let there = row-there inputs c.self.inside.requests c.self.invariant.rows_are port found (slice_get_within inputs port found is) in (
+      row_in found,
+      there ∙ ap (λ (input : InputValue). Some (row_in input)) (sym c.index_mut-input.ensures.value),
+      c.leave-name.ensures.changed,
+    )
 
 pub invariant_of-self : goal.invariant_of-self
 invariant_of-self c =
@@ -92,7 +96,7 @@ invariant_of-self c =
     let stays : next_slot new ≡ next_slot found = next-same new found c.leave-name.ensures.plan c.leave-name.ensures.next in
     record {
       size = omega arith;
-      rows_are = c.change.ensures ∙ (ap (set c.self.inside.requests port) c.row.ensures ∙ rows-set inputs c.self.inside.requests kept.rows_are port new);
+      rows_are = c.follow.ensures ∙ rows-set inputs c.self.inside.requests kept.rows_are port new;
       next = subst (λ n. IsFirst n (set inputs port new) c.self.inside.first) (sym long)
           (first-stays (length inputs) port inputs found new is stays c.self.inside.first kept.next);
     }

@@ -1,10 +1,11 @@
 use Rattle.std.proofs.Common.{◌≡◌, ◌≢◌, ◌∙◌, ℕ, Bool, List, Option, Some, true, false, length, slice_get, get_or, sym, subst, arith}
 use Rattle.slot_match.specs.declared.matching.Served.{Served}
 use Rattle.card_core.specs.declared.plan.Planned.{Planned}
-use Rattle.card_core.specs.StateSteps.{MayEnter, Enters}
-use Rattle.descriptor_runs.specs.InputSteps.{InputValue, HasServed, next_slot}
+use Rattle.card_core.specs.StateSteps.{MayEnter, Enters, row_of}
+use Rattle.descriptor_runs.specs.InputSteps.{InputValue, HasServed, ChangesAt, next_slot, row_in}
 use Rattle.descriptor_runs.specs.contracts.inputs.Input.{the_view}
 use Rattle.descriptor_runs.proofs.ServedInputs.{may_come, admits, drops, passes, next_is, few_next, few_counts}
+use Rattle.descriptor_runs.proofs.ChangedSets.{changed-by-entering, unchanged-by-passing}
 use Rattle.descriptor_runs.proofs.inputs.Input.arrive.Goals as goal
 use Rattle.descriptor_runs.proofs.inputs.Input.arrive.Goals.{then-not-is_empty+then-enter, then-not-is_empty+else-enter, else-not-is_empty}
 
@@ -75,4 +76,29 @@ returns-clause-arrived c served was slot_is is =
           w.cells_of-cells.ensures w.if-enter.ensures))
       | else-not-is_empty w ↦
           rw w.self-inside-is (passes old served it.was packet it.there it.now (c.is_empty.ensures.zero.0 w.if-not-is_empty.false))
+    ]
+
+pub returns-clause-changed : goal.returns-clause-changed
+returns-clause-changed c =
+    let (served, was, slot_is, is, room) = c.requires in
+    let packet = c.index-packet.result.now in
+    let old = the_view c.self.inside in
+    let it = now_of old _ c.self.view_is served was c.args.slot slot_is is packet c.index-packet.ensures in
+    let may : packet.fan ≢ 0 → MayEnter old.banks old.fans packet.fan packet.level _ = may_come old served it.was packet it.there it.now in
+    elim c.if-not-is_empty.branch [
+      | then-not-is_empty+then-enter w ↦
+          let some = some_ports packet.fan c.is_empty.result c.is_empty.ensures.zero.1 w.if-not-is_empty.true in
+          let new = w.enter.new.self in
+          rw w.self-inside-is (subst (λ (i : InputValue). ChangesAt (row_in i) (row_of new.unicast new.multicast) c.queue_of.result) c.self.view_is
+          (changed-by-entering c.queue_of.result old.next packet.fan packet.level w.cells_of-cells.result true old.banks new.unicast old.fans new.multicast
+          (may some).level_in some c.queue_of.ensures w.if-enter.ensures))
+      | then-not-is_empty+else-enter w ↦
+          let some = some_ports packet.fan c.is_empty.result c.is_empty.ensures.zero.1 w.if-not-is_empty.true in
+          let new = w.enter.new.self in
+          rw w.self-inside-is (subst (λ (i : InputValue). ChangesAt (row_in i) (row_of new.unicast new.multicast) c.queue_of.result) c.self.view_is
+          (changed-by-entering c.queue_of.result old.next packet.fan packet.level w.cells_of-cells.result false old.banks new.unicast old.fans new.multicast
+          (may some).level_in some c.queue_of.ensures w.if-enter.ensures))
+      | else-not-is_empty w ↦
+          rw w.self-inside-is (subst (λ (i : InputValue). ChangesAt (row_in i) (row_in old) c.queue_of.result) c.self.view_is
+          (unchanged-by-passing c.queue_of.result packet.fan packet.level (row_in old) (c.is_empty.ensures.zero.0 w.if-not-is_empty.false) c.queue_of.ensures))
     ]

@@ -1,4 +1,4 @@
-use Rattle.std.proofs.Common.{◌≡◌, ◌≢◌, ◌∙◌, ℕ, ◌<◌, ◌↔◌, false, List, length, set, sym, ap, subst, refl, inl, inr, arith}
+use Rattle.std.proofs.Common.{◌≡◌, ◌≢◌, ◌∙◌, ℕ, ◌<◌, ◌↔◌, false, List, length, get_or, set, get_or-set_same, sym, ap, subst, refl, inl, inr, arith}
 use Rattle.std.proofs.lemmas.Bool.{cases_eq, both_ways}
 use Rattle.std.proofs.lemmas.Bool.Decides.{same_from_decides}
 use Rattle.std.proofs.lemmas.List.{length-set}
@@ -6,11 +6,13 @@ use Rattle.std.proofs.lemmas.Option.{same_Some}
 use Rattle.std_lemmas.proofs.Lists.{get-set_same, get-set_other}
 use Rattle.rotating_pick.specs.PortSets.{Has}
 use Rattle.slot_match.specs.declared.rows.Row.{Row}
+use Rattle.slot_match.specs.Rows.{row_of}
+use Rattle.eslip_rounds.specs.ColumnSteps.{with_set}
 use Rattle.slot_histories.specs.Tests.{is_empty}
 use Rattle.slot_histories.proofs.SetTests.{Decides-is_empty}
 use Rattle.descriptor_runs.specs.PortSteps.{AreAsking}
-use Rattle.descriptor_runs.proofs.requests.Requests.change.Goals as goal
-use Rattle.descriptor_runs.proofs.requests.Requests.change.Goals.{then-is_empty, else-is_empty}
+use Rattle.descriptor_runs.proofs.requests.Requests.change_set.Goals as goal
+use Rattle.descriptor_runs.proofs.requests.Requests.change_set.Goals.{then-is_empty, else-is_empty}
 
 -- where one input's row is changed, and no other input is put in or out
 changed : (rows : List Row) (asking after input : ℕ) (row : Row) → input < length rows → AreAsking rows asking
@@ -37,10 +39,13 @@ invariant_of-self c =
     let rows : List Row = c.self.inside.columns in
     let asking = c.self.inside.asking in
     let input = c.args.input in
-    let row : Row = c.args.row.now in
-    let inside : input < length rows = let same = ap length c.self.view_is in let below = c.requires in omega arith in
-    let test : c.is_empty.result ≡ is_empty row = same_from_decides c.is_empty.result (is_empty row) c.is_empty.ensures (Decides-is_empty row) in
-    subst (λ (rs : List Row). AreAsking rs c.if-is_empty.self) (sym c.change.ensures)
+    let row : Row = with_set (row_of rows input) c.args.level c.args.kind c.args.outputs in
+    let inside : input < length rows = let same = ap length c.self.view_is in let below = c.requires.input_in in omega arith in
+    let there : get_or c.rows.result.now input _ ≡ row =
+    ap (λ (rs : List Row). get_or rs input _) (c.rows.ensures ∙ c.change_set.ensures) ∙ get_or-set_same rows input row _ inside in
+    let test : c.is_empty.result ≡ is_empty row =
+    same_from_decides c.is_empty.result (is_empty _) c.is_empty.ensures (Decides-is_empty _) ∙ ap is_empty there in
+    subst (λ (rs : List Row). AreAsking rs c.if-is_empty.self) (sym c.change_set.ensures)
     (elim c.if-is_empty.branch [
       | then-is_empty w ↦
           let gone = w.without-self-inside.ensures.members in
