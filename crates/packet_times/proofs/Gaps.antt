@@ -1,6 +1,7 @@
 -- A gap of a run changes nothing of what is kept.
 use Rattle.std.proofs.Common.{◌≡◌, ◌∙◌, ℕ, zero, suc, ◌+◌, ◌-◌, ◌<◌, ◌≤◌, Bool, false, List, [], ◌∷◌, ◌++◌, length, map, filter, take, Option, None, replicate}
-use Rattle.std.proofs.Common.{refl, sym, ap, arith, inl, inr, slice_index_or}
+use Rattle.std.proofs.Common.{◌^◌, refl, sym, ap, subst, arith, inl, inr, slice_index_or}
+use Rattle.std.specs.Prelude.{All}
 use Rattle.std.specs.List.{range_with_len}
 use Rattle.std.proofs.lemmas.Bool.{cases_eq}
 use Rattle.std.proofs.lemmas.List.{append-nil}
@@ -90,4 +91,7 @@ module _ (scheduler : Scheduler) (plan : SwitchPlan) (slot next : ℕ) (gap : Is
     flows = was.flows;
     ends = λ flow flows. was.ends flow flows ∙ (let ahead = gap-ahead scheduler plan slot next gap in sym (same-ends flow next ahead (omega arith)));
     last = last-kept times.matched slot next refl refl was.last;
+    narrow = λ flow.
+        let ahead = gap-ahead scheduler plan slot next gap in
+        subst (λ ends. All (λ t. t < 2 ^ 32) ends) (sym (same-ends flow next ahead (omega arith))) (was.narrow flow);
   }

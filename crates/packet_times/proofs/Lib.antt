@@ -11,6 +11,8 @@ mod Counted
 mod Walked
 mod Walks
 mod KeptTexts
+mod MostBytes
+mod Counting
 mod Telling
 mod Summing
 mod Asides

@@ -1,10 +1,11 @@
 -- A slot more is noted.
-use Rattle.std.proofs.Common.{◌≡◌, ◌∙◌, ℕ, zero, suc, ◌+◌, ◌*◌, ◌^◌, ◌<◌, Bool, List, [], ◌∷◌, ◌++◌, length, map, filter, Option, refl, sym, ap, subst}
-use Rattle.std.proofs.Common.{arith, inl, inr, slice_set, slice_index_or, replicate, get_or-set_same, get_or-set_other, length-set}
+use Rattle.std.proofs.Common.{◌≡◌, ◌∙◌, ℕ, zero, suc, ◌+◌, ◌*◌, ◌^◌, ◌<◌, Bool, true, false, List, [], ◌∷◌, ◌++◌, length, map, filter, Option, refl, sym, ap, subst}
+use Rattle.std.proofs.Common.{if◌then◌else◌, arith, inl, inr, slice_set, slice_index_or, replicate, get_or-set_same, get_or-set_other, length-set}
+use Rattle.std.specs.Prelude.{All}
 use Rattle.std.specs.List.{range_with_len}
 use Rattle.std.proofs.lemmas.Bool.{cases_eq}
 use Rattle.std.proofs.lemmas.List.{length-replicate, get_or-map, length-map}
-use Rattle.std.proofs.lemmas.List.Elements.{filter-append}
+use Rattle.std.proofs.lemmas.List.Elements.{filter-append, All-append}
 use Rattle.std.proofs.lemmas.List.Sums.{get_or-le-sum_by}
 use Rattle.std.proofs.lemmas.List.FromFn.{get_or-map-range_with_len, length-map-range_with_len}
 use Rattle.std.proofs.Math.ListN.{get_or-append}
@@ -104,11 +105,20 @@ module _ (scheduler : Scheduler) (plan : SwitchPlan) (slot : ℕ) (posts : List 
       ∙ filter-append test (range_with_len 0 slot) (slot ∷ [])
       ∙ ap (λ cell. ends_of scheduler plan flow slot ++ end_in slot flow cell) (crossed-is feeds flow.output last)
 
+  -- a slot of 32 bits adds no greater end
+  one-narrow : slot < 2 ^ 32 → (k d : ℕ) → k < length (slot ∷ []) → slice_index_or (slot ∷ []) k d < 2 ^ 32
+  one-narrow few zero d below = few
+  one-narrow few (suc k) d below = absurd (omega (arith, below))
+
+  end-narrow : (b : Bool) → slot < 2 ^ 32 → All (λ t. t < 2 ^ 32) (if b then slot ∷ [] else [])
+  end-narrow true few = one-narrow few
+  end-narrow false few = λ k d below. absurd (omega (arith, below))
+
   -- ---- the slot is noted
-  pub all-noted : (old new : Times) → HasNoted scheduler plan old slot → AreNoted scheduler plan slot (ports_of plan) new.inputs
+  pub all-noted : slot < 2 ^ 32 → (old new : Times) → HasNoted scheduler plan old slot → AreNoted scheduler plan slot (ports_of plan) new.inputs
       → HasEnds (ports_of plan) slot (fetched old.matched (map (λ post. post.cell) posts)) old.ends new.ends → new.matched ≡ matched
       → HasNoted scheduler plan new (slot + 1)
-  all-noted old new was inputs ends kept = record {
+  all-noted few old new was inputs ends kept = record {
     good = was.good;
     count = inputs.count;
     each = λ i inside. inputs.done i inside inside;
@@ -117,6 +127,10 @@ module _ (scheduler : Scheduler) (plan : SwitchPlan) (slot : ℕ) (posts : List 
         ∙ ap (λ es. es ++ end_in slot flow (fetched old.matched (map (λ (post : CardPost). post.cell) posts) flow.output)) (was.ends flow flows)
         ∙ sym (ends-more old.matched flow was.last);
     last = let next : suc slot ≡ slot + 1 = omega arith in subst (IsLastMatch scheduler plan new.matched) next (kept ∙ is.matched_is);
+    narrow = λ flow.
+        let cell = fetched old.matched (map (λ (post : CardPost). post.cell) posts) flow.output in
+        subst (λ ends. All (λ t. t < 2 ^ 32) ends) (sym (ends-more old.matched flow was.last))
+        (All-append (λ t. t < 2 ^ 32) (ends_of scheduler plan flow slot) (end_in slot flow cell) (was.narrow flow) (end-narrow (is_end_of flow cell) few));
   }
 
 pub are-noted : (scheduler : Scheduler) (plan : SwitchPlan) (slot : ℕ) (times : Times) → HasNoted scheduler plan times slot
@@ -139,6 +153,7 @@ first-noted scheduler plan times good inputs ends none = record {
   ends = λ flow flows. ap (λ lists. slice_index_or lists (flow_place (ports_of plan) flow) []) ends
       ∙ get_or-same [] (FLOWS_PER_INPUT * (ports_of plan * ports_of plan)) (flow_place (ports_of plan) flow);
   last = none;
+  narrow = λ flow k d below. absurd (omega (arith, below));
 }
 
 -- ---- the inputs of a plan

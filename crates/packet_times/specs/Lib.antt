@@ -5,4 +5,5 @@ pub mod Steps
 pub mod FieldSteps
 pub mod WalkingSteps
 pub mod KeptSteps
+pub mod MostSteps
 pub mod PuttingSteps

@@ -1,5 +1,5 @@
 -- What is kept of the slots of a run that are noted: which packets were admitted, and the ends of each flow.
-use Rattle.std.specs.Prelude.{◌≡◌, ◌<◌, ◌+◌, ◌*◌, ◌^◌, ℕ, zero, suc, ◌&&◌, Bool, List, [], length, map, take, Option, slice_index_or}
+use Rattle.std.specs.Prelude.{◌≡◌, ◌<◌, ◌+◌, ◌*◌, ◌^◌, ℕ, zero, suc, ◌&&◌, Bool, List, [], All, length, map, take, Option, slice_index_or}
 use Rattle.rotating_pick.specs.declared.limits.TheConstants.{LEVELS}
 use Rattle.rotating_pick.specs.declared.kinds.Kind.{Kind}
 use Rattle.rotating_pick.specs.declared.kinds.Kind.TheVariants.{Uni, Multi}
@@ -60,7 +60,7 @@ abbrev pub IsLastMatch : Scheduler → SwitchPlan → List (Option Fed) → ℕ 
 IsLastMatch scheduler plan matched zero = matched ≡ []
 IsLastMatch scheduler plan matched (suc t) = matched ≡ (decision_under scheduler (setup_for plan) (posts_under scheduler plan) t).matched
 
--- The first slots of the plan's run are noted.
+-- The first slots of the plan's run are noted. Each message ends in a slot whose number is of 32 bits.
 pub record HasNoted (scheduler : Scheduler) (plan : SwitchPlan) (times : Times) (slots : ℕ) : Type 0 where
   pub good : IsGood plan
   pub count : length times.inputs ≡ ports_of plan
@@ -68,3 +68,4 @@ pub record HasNoted (scheduler : Scheduler) (plan : SwitchPlan) (times : Times) 
   pub flows : length times.ends ≡ FLOWS_PER_INPUT * (ports_of plan * ports_of plan)
   pub ends : (flow : Flow) → IsFlow (ports_of plan) flow → slice_index_or times.ends (flow_place (ports_of plan) flow) [] ≡ ends_of scheduler plan flow slots
   pub last : IsLastMatch scheduler plan times.matched slots
+  pub narrow : (flow : Flow) → All (λ t. t < 2 ^ 32) (ends_of scheduler plan flow slots)

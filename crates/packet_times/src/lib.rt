@@ -7,6 +7,7 @@ mod going;
 mod inputs;
 pub mod laws;
 mod limits;
+mod most;
 mod pieces;
 mod rows;
 mod state;

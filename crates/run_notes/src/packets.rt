@@ -1,9 +1,10 @@
-ghost use Rattle.std.specs.Prelude.{◌+◌, ℕ, Bool, option_map, IfErr, IfOk, IfSome, OnOk};
+ghost use Rattle.std.specs.Prelude.{◌+◌, ◌≤◌, ℕ, Bool, length, option_map, IfErr, IfOk, IfSome, IsTrue, OnOk};
 ghost use Rattle.eslip_rounds.specs.Schedulers.{Scheduler};
 ghost use Rattle.switch_plan.specs.GoodPlans.{SwitchPlan, IsGood, IsCountable, switch_plan_of};
 ghost use Rattle.run_laws.specs.Promises.{ArrivalsComeFirst};
 ghost use Rattle.run_laws.specs.Runs.{IsSlotUnder};
 ghost use Rattle.packet_times.specs.KeptSteps.{left};
+ghost use Rattle.packet_times.specs.declared.limits.TheConstants.{MAX_PACKETS_BYTES};
 ghost use Rattle.packet_times.specs.Rows.{packets_text_under};
 ghost use Rattle.run_notes.specs.NotingSteps.{AreTimesAfter, IsKept, IsPacketsFile, StopsPackets};
 
@@ -50,6 +51,17 @@ pub(crate) fn note_times(
     }
 }
 
+// Whether the packets file has so few rows that its bytes need not be counted.
+fn is_surely_short(times: &PacketTimes) -> bool
+    ensures { IsTrue result → (scheduler : Scheduler) (plan : SwitchPlan) (slots : ℕ) → AreTimesAfter scheduler plan slots times.now
+        → length (packets_text_under scheduler plan slots) ≤ MAX_PACKETS_BYTES }
+{
+    match times.most_bytes() {
+        Some(most) => most <= MAX_PACKETS_BYTES as u64,
+        None => false,
+    }
+}
+
 /// The packets file, where it is wanted: of at most 134,217,728 bytes where the run is not long. It takes no memory.
 pub(crate) fn packets_file(
     times: Option<PacketTimes>,
@@ -64,7 +76,7 @@ pub(crate) fn packets_file(
     let Some(times) = times else {
         return Ok(None);
     };
-    if !long {
+    if !long && !is_surely_short(&times) {
         let len = times.len()?;
         if len > MAX_PACKETS_BYTES as u64 {
             return Err(NotesFault::PacketsTooLong(len));

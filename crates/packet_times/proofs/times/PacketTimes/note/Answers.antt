@@ -30,4 +30,4 @@ returns c scheduler plan noted is =
     let kept : (with_items c.self.inside.inputs inputs).items ≡ inputs = with_items_is c.self.inside.inputs inputs (omega (arith, made.count, was.count)) in
     let new : Times = record { inputs = inputs; ends = c.note_ends.new.ends.items; matched = c.keep_feeds.new.feeds.items } in
     subst (λ (is : List Input). HasNoted scheduler plan (record { inputs = is; ends = new.ends; matched = new.matched }) (slot + 1)) (sym kept)
-    (all-noted scheduler plan slot c.args.posts.now c.args.matched.now is old new was made ends c.in_ok-keep_feeds.ensures)
+    (all-noted scheduler plan slot c.args.posts.now c.args.matched.now is c.ranges.slot.fits old new was made ends c.in_ok-keep_feeds.ensures)
