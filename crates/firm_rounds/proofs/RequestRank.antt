@@ -63,8 +63,8 @@ RanksBelow-nearer n level i j places most far rows pointing i_in j_in named near
 module _ (n t level : ℕ) (rows : List Row) (first matched : List (Option Fed)) (before after : Places) (level_in : level < LEVELS)
     (begins : BeginsWith n t rows before first matched) (moved : AreMovedByFirm n t rows first matched before after) (pointing : ArePointing n level before)
     (pointing_after : ArePointing n level after) where
-  module _ (i j most : ℕ) (i_in : i < n) (j_in : j < n) (quiet : IsQuietFor n level j rows) (ranks : RanksBelow n level i j before (most + 1) rows) (left : Serves matched i j level Uni → ⊥)
-      (later : List Row) (named : Names (row_of later i) level Uni j) where
+  module _ (i j most : ℕ) (i_in : i < n) (j_in : j < n) (quiet : IsQuietFor n level j rows) (ranks : RanksBelow n level i j before (most + 1) rows)
+      (left : Serves matched i j level Uni → ⊥) (later : List Row) (named : Names (row_of later i) level Uni j) where
     -- the input h that is granted took the output: the grant pointer passes it, and comes nearer to i
     falls_where_accepted : (h : ℕ) → IsFirstFrom n (grant_of before j level) (λ x. Names (row_of rows x) level Uni j) h
         → Serves first h j level Uni → RanksBelow n level i j after most later

@@ -56,8 +56,8 @@ pub quiet_served_by_rounds : (n rounds t level i j : ℕ) (places : Places) (slo
 quiet_served_by_rounds n rounds t level i j places slots some inside schedule quiet first long =
     elim (eqb_tells rounds 1) [
       | inl one ↦
-          one_quiet_served_in_time n t level i j places slots inside (subst (λ r. IsKeptScheduleBy AreMoved n r t level places slots) one.1 schedule) quiet first
-          (rw one.0 at long)
+          one_quiet_served_in_time n t level i j places slots inside
+          (subst (λ r. IsKeptScheduleBy AreMoved n r t level places slots) one.1 schedule) quiet first (rw one.0 at long)
       | inr more ↦ quiet_served_in_time n rounds t level i j places slots some inside schedule quiet first (rw more.0 at long)
     ]
 

@@ -1,5 +1,6 @@
 -- Queues that wait in a slot as they did in the last are kept as they are.
-use Rattle.std.proofs.Common.{◌≡◌, ℕ, ◌+◌, ◌/◌, ◌%◌, ◌<◌, ◌∙◌, ◌==◌, ◌↔◌, ◌⊎◌, ◌++◌, Bool, true, false, cond, List, [], ◌∷◌, Option, None, length, slice_index_or, refl, sym, subst, inl, inr, arith}
+use Rattle.std.proofs.Common.{◌≡◌, ℕ, ◌+◌, ◌/◌, ◌%◌, ◌<◌, ◌∙◌, ◌==◌, ◌↔◌, ◌⊎◌, ◌++◌, Bool, true, false, cond, List, [], ◌∷◌, Option, None, length}
+use Rattle.std.proofs.Common.{slice_index_or, refl, sym, subst, inl, inr, arith}
 use Rattle.std.specs.Int.{bit_at}
 use Rattle.std.proofs.lemmas.Bool.Decides.{same_from_decides, Decides-like}
 use Rattle.std.proofs.lemmas.Bool.{cases_lt}
@@ -110,7 +111,8 @@ module _ (old new : Meter) (rows : List Row) (parts : List (Option Served)) (new
     (noted : (matched : List (Option Fed)) → HasParts (length rows) matched parts → (place : ℕ) → Has inputs (place / LEVELS)
     → NotesSlot old.count (λ j. is_waiting (record { rows = rows; matched = matched }) (place / LEVELS) j (place % LEVELS)) (queues_at old.queues place)
     (queues_at new.queues place))
-    (others : (place : ℕ) → (Has inputs (place / LEVELS) → ⊥) → queues_at new.queues place ≡ queues_at old.queues place) (kept : IsKept rows parts news old) where
+    (others : (place : ℕ) → (Has inputs (place / LEVELS) → ⊥) → queues_at new.queues place ≡ queues_at old.queues place)
+    (kept : IsKept rows parts news old) where
   pub HasNoted-news : (slots : List NotedSlot) (matched : List (Option Fed)) → HasNoted old slots → HasParts old.ports matched parts
       → HasNoted new (slots ++ record { rows = rows; matched = matched } ∷ [])
   HasNoted-news slots matched has_noted has =

@@ -31,7 +31,8 @@ module _ (n rounds level i j : ℕ) (some : 0 < rounds) (i_in : i < n) where
       elim (Serves-decides slot.decision.matched i j level Uni) [
         | inl served ↦ Any-here Served slot slots served
         | inr left ↦
-            let next = falls_in_quiet_slot n rounds t level places slot some (first_kept_by AreMoved n rounds t level places slot slots schedule) i j g i_in g_in
+            let kept = first_kept_by AreMoved n rounds t level places slot slots schedule in
+            let next = falls_in_quiet_slot n rounds t level places slot some kept i j g i_in g_in
             (All-head Quiet slot slots quiet) named asking left in
             let h = next.0 in
             let by = next.1 in

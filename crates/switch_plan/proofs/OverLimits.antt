@@ -94,7 +94,8 @@ pub within_from : (limits : Limits) (ports : List PortPlan) → over_ports limit
 within_from limits ports none =
     let packets = sum_by length (packets_of_ports ports) in
     let cells = total_work (packets_of_ports ports) in
-    let first = none_passed (first_over limits.slots 0 (slots_in ports)) (option_or (over_packets limits.packets packets) (over_cells limits.cells cells)) none in
+    let over_rest = option_or (over_packets limits.packets packets) (over_cells limits.cells cells) in
+    let first = none_passed (first_over limits.slots 0 (slots_in ports)) over_rest none in
     let rest = none_passed (over_packets limits.packets packets) (over_cells limits.cells cells) first.1 in
     record {
       slots = each_within limits.slots ports first.0;

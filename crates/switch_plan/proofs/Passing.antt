@@ -1,6 +1,6 @@
 -- One pass over the packets of a capture, as far as it has come.
-use Rattle.std.proofs.Common.{◌≡◌, ◌∙◌, ℕ, zero, suc, ◌+◌, ◌-◌, ◌*◌, ◌^◌, ◌<◌, ◌≤◌, max, List, [], ◌∷◌, ◌++◌, length, take, slice_index_or, refl, ap, sym, subst}
-use Rattle.std.proofs.Common.{arith}
+use Rattle.std.proofs.Common.{◌≡◌, ◌∙◌, ℕ, zero, suc, ◌+◌, ◌-◌, ◌*◌, ◌^◌, ◌<◌, ◌≤◌, max, List, [], ◌∷◌, ◌++◌, length, take, slice_index_or, refl, ap, sym}
+use Rattle.std.proofs.Common.{subst, arith}
 use Rattle.std.specs.Prelude.{map, All}
 use Rattle.std.specs.List.{zip}
 use Rattle.std.proofs.lemmas.List.{length-map, take_all}
@@ -114,7 +114,8 @@ module _ (table : List RouteLine) (pace : Pace) (capture : Capture) where
         free_is = sym (ap (λ n. free_after pace 0 (take n stamps)) one_more ∙ free_more pace 0 stamps k d in_stamps ∙ ap (λ n. n + 1) here);
         low = omega (arith, far.low, step.bound);
         made = λ within.
-            made_next unplaced before after (traffic_at table pace capture) packet k (planned table capture.link (packet_in capture.bytes.items no_stored) 0) push
+            made_next unplaced before after (traffic_at table pace capture) packet k
+            (planned table capture.link (packet_in capture.bytes.items no_stored) 0) push
             (step.packet_is (omega arith) ∙ traffic_here k slot inside (slot_more pace 0 stamps k d in_stamps ∙ here)) (omega (arith, traffic_long))
             (far.made (omega arith));
         places = made_next (λ (p : Planned). p.start) before after (map (λ (s : Stored). s.start) own) packet k 0 push

@@ -11,7 +11,8 @@ abbrev pub invariant-loop-level : goal.invariant-loop-level
 invariant-loop-level l = record {
   long : length l.queues.items ≡ length l.fn.queues.items;
   before : (place : ℕ) → place < place_of l.input 0 → queues_at l.queues.items place ≡ queues_at l.fn.queues.items place;
-  noted : (matched : List (Option Fed)) → IsMatch (length l.rows) matched → l.served ≡ served_of matched l.input → (place : ℕ) → place_of l.input 0 ≤ place → place < place_of l.input l.level
+  noted : (matched : List (Option Fed)) → IsMatch (length l.rows) matched → l.served ≡ served_of matched l.input
+      → (place : ℕ) → place_of l.input 0 ≤ place → place < place_of l.input l.level
       → NotesSlot l.count (λ j. is_waiting (record { rows = l.rows; matched = matched }) (place / LEVELS) j (place % LEVELS))
       (queues_at l.fn.queues.items place) (queues_at l.queues.items place);
   left : (place : ℕ) → place_of l.input l.level ≤ place → queues_at l.queues.items place ≡ queues_at l.fn.queues.items place;

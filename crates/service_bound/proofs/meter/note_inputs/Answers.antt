@@ -12,7 +12,8 @@ pub note_input-requires-clause-begun : goal.note_input-requires-clause-begun
 note_input-requires-clause-begun c = λ place here.
     let inv = c.loop-input.invariant in
     let input_in = c.requires.inputs c.in-Some.input (inv.inside c.in-Some.input c.in-Some.ensures.member) in
-    subst (AreBegun c.args.count) (sym (inv.left place (subst (Has c.loop-input.left) (sym here) c.in-Some.ensures.member))) (c.requires.begun place (omega arith))
+    let same = inv.left place (subst (Has c.loop-input.left) (sym here) c.in-Some.ensures.member) in
+    subst (AreBegun c.args.count) (sym same) (c.requires.begun place (omega arith))
 
 pub loop-input-preserved : goal.loop-input-preserved
 loop-input-preserved c =
@@ -26,8 +27,11 @@ loop-input-preserved c =
       long = made.long ∙ inv.long;
       inside = λ i has. inv.inside i ((rest i).0 has).1;
       noted = λ matched has place member gone. elim (cases_eq (place / LEVELS) c.in-Some.input) [
-        | inl here ↦ subst (λ q. Notes matched place q (queues_at new place)) (inv.left place (subst (Has c.loop-input.left) (sym here) c.in-Some.ensures.member))
-            (made.noted matched has.whole (has.each c.in-Some.input (c.requires.inputs c.in-Some.input (inv.inside c.in-Some.input c.in-Some.ensures.member))) place here)
+        | inl here ↦
+            let same = inv.left place (subst (Has c.loop-input.left) (sym here) c.in-Some.ensures.member) in
+            let input_in = c.requires.inputs c.in-Some.input (inv.inside c.in-Some.input c.in-Some.ensures.member) in
+            subst (λ q. Notes matched place q (queues_at new place)) same
+            (made.noted matched has.whole (has.each c.in-Some.input input_in) place here)
         | inr other ↦ rw (made.others place other) (inv.noted matched has place member (λ left. gone ((rest (place / LEVELS)).1 (other, left))))
       ];
       left = λ place has. let both = (rest (place / LEVELS)).0 has in made.others place both.0 ∙ inv.left place both.1;
