@@ -1,5 +1,5 @@
--- Columns that are kept: what they say of the rows, and a change of one row, set after set.
-use Rattle.std.proofs.Common.{◌≡◌, ◌≢◌, ℕ, ◌+◌, ◌<◌, ◌≤◌, ◌↔◌, ◌∙◌, List, [], length, slice_index, slice_index_or, slice_set, take, replicate, refl, sym, ap, subst}
+-- Columns that are kept: what they say of the rows, and a change of one set of a row.
+use Rattle.std.proofs.Common.{◌≡◌, ◌≢◌, ℕ, ◌<◌, ◌≤◌, ◌↔◌, ◌∙◌, List, [], length, slice_index, slice_index_or, slice_set, take, replicate, refl, sym, ap, subst}
 use Rattle.std.proofs.Common.{inl, inr, arith, length-set, get_or-set_same, get_or-set_other}
 use Rattle.std.proofs.lemmas.Bool.{cases_eq, cases_lt}
 use Rattle.std.proofs.lemmas.List.{get_or-take, length-take, get_or_past, get_or-replicate, length-replicate}
@@ -106,54 +106,6 @@ IsKeptSet-turned n input rows row set new table after named later input_in insid
           ];
       outputs = outputs;
     }
-
--- the tables after a change of the first k sets: these have the new row, and the others still the old one
-pub record AreChanging (n k : ℕ) (rows changed : List Row) (asks : Asks) : Type 0 where
-  pub sets : length asks.columns ≡ SETS
-  pub words : length asks.outputs ≡ SETS
-  pub done : (s : ℕ) → s < k → IsKeptSet n changed s (slice_index_or asks.columns s []) (slice_index asks.outputs s)
-  pub waits : (s : ℕ) → k ≤ s → s < SETS → IsKeptSet n rows s (slice_index_or asks.columns s []) (slice_index asks.outputs s)
-
-pub AreChanging-next : (n k : ℕ) (rows changed : List Row) (before after : Asks) (table : List ℕ) (named : ℕ) → k < SETS
-    → AreChanging n k rows changed before → after.columns ≡ slice_set before.columns k table → after.outputs ≡ slice_set before.outputs k named
-    → IsKeptSet n changed k table named → AreChanging n (k + 1) rows changed after
-AreChanging-next n k rows changed before after table named k_in known columns outputs kept =
-    let C : List (List ℕ) = slice_set before.columns k table in
-    let O : List ℕ = slice_set before.outputs k named in
-    let in_columns : k < length before.columns = let long = known.sets in omega arith in
-    let in_outputs : k < length before.outputs = let long = known.words in omega arith in
-    let table_at : slice_index_or after.columns k [] ≡ table = ap (λ c. slice_index_or c k []) columns ∙ get_or-set_same before.columns k table [] in_columns in
-    let named_at : slice_index after.outputs k ≡ named = ap (λ o. slice_index o k) outputs ∙ get_or-set_same before.outputs k named 0 in_outputs in
-    let others : (s : ℕ) → (s ≡ k → ⊥) → (slice_index_or after.columns s [] ≡ slice_index_or before.columns s [])
-    × (slice_index after.outputs s ≡ slice_index before.outputs s) = λ s apart. (
-      ap (λ c. slice_index_or c s []) columns ∙ get_or-set_other before.columns k s table [] apart,
-      ap (λ o. slice_index o s) outputs ∙ get_or-set_other before.outputs k s named 0 apart,
-    ) in
-    let along : (rs : List Row) (s : ℕ) (a b : List ℕ) (x y : ℕ) → a ≡ b → x ≡ y → IsKeptSet n rs s a x → IsKeptSet n rs s b y = λ rs s a b x y e d h.
-    subst (λ z. IsKeptSet n rs s b z) d (subst (λ (z : List ℕ). IsKeptSet n rs s z x) e h) in
-    record {
-      sets = ap length columns ∙ (length-set before.columns k table ∙ known.sets);
-      words = ap length outputs ∙ (length-set before.outputs k named ∙ known.words);
-      done = λ s below. elim (cases_eq s k) [
-        | inl here ↦
-            let P : ℕ → Type 0 = λ x. IsKeptSet n changed x (slice_index_or after.columns x []) (slice_index after.outputs x) in
-            subst P (sym here) (along changed k table (slice_index_or after.columns k []) named (slice_index after.outputs k) (sym table_at) (sym named_at) kept)
-        | inr apart ↦
-            let e = others s apart in
-            along changed s (slice_index_or before.columns s []) (slice_index_or after.columns s []) (slice_index before.outputs s)
-            (slice_index after.outputs s) (sym e.0) (sym e.1) (known.done s (omega arith))
-      ];
-      waits = λ s above s_in.
-          let e = others s (λ same. absurd (omega arith)) in
-          along rows s (slice_index_or before.columns s []) (slice_index_or after.columns s []) (slice_index before.outputs s) (slice_index after.outputs s)
-          (sym e.0) (sym e.1) (known.waits s (omega arith) s_in);
-    }
-
--- after a change of all sets
-pub AreKept-changed : (n k : ℕ) (rows changed : List Row) (asks : Asks) → 0 < n → n ≤ MAX_PORTS → length changed ≡ MAX_PORTS → SETS ≤ k
-    → AreChanging n k rows changed asks → AreKept n changed asks
-AreKept-changed n k rows changed asks some size long all known =
-    record { some = some; size = size; long = long; sets = known.sets; words = known.words; each = λ set set_in. known.done set (omega arith) }
 
 -- a row with one set replaced names in all other sets what it named
 pub with_set-others : (row : Row) (level : ℕ) (kind : Kind) (outputs l : ℕ) (k : Kind) → (l ≡ level → k ≡ kind → ⊥)

@@ -1,4 +1,4 @@
--- What columns that are kept hold, and what a change of one row does to them.
+-- What columns that are kept hold, and what a change of one set of a row does to them.
 use Rattle.std.specs.Prelude.{◌≡◌, ◌≢◌, ℕ, ◌<◌, ◌≤◌, ◌↔◌, ◌⊎◌, List, [], length, slice_index, slice_index_or, slice_set}
 use Rattle.rotating_pick.specs.PortSets.{Has}
 use Rattle.rotating_pick.specs.declared.kinds.Kind.{Kind}

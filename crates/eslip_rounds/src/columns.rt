@@ -5,7 +5,7 @@ ghost use Rattle.eslip_rounds.specs.Steps.{AreAsks};
 ghost use Rattle.eslip_rounds.specs.ColumnSteps.{with_set, IsTurned, AreOutputs};
 
 use crate::asks::Asks;
-use crate::ranks::{SETS, kind_of, level_of, set_at_level};
+use crate::ranks::set_at_level;
 use rotating_pick::{
     Kind, LEVELS, MAX_PORTS, PORT_COUNT, Ports, contains, difference, is_empty, lowest, union,
     with, without,
@@ -14,7 +14,7 @@ use slot_match::Row;
 use std::marker::Model;
 
 /// The rows of a switch's inputs, kept by columns from slot to slot: for each output, level and kind the inputs whose
-/// rows name it so. Whoever keeps it changes it row by row.
+/// rows name it so. Whoever keeps it changes it set by set.
 ///
 /// Contracts see the rows, one for each input.
 #[derive(Drop)]
@@ -55,24 +55,6 @@ impl Columns {
         ensures { result.now ≡ self.now }
     {
         &self.rows[..self.ports as usize]
-    }
-
-    /// Puts another row in the place of the input's. It takes a step for each output, level and kind in which they
-    /// differ.
-    pub fn change(&mut self, input: u32, row: &Row)
-        requires { input < length self.old }
-        ensures { self.new ≡ slice_set self.old input row.now }
-    {
-        let was = self.rows[input as usize];
-        for set in 0..SETS as u32 {
-            let level = level_of(set);
-            let kind = kind_of(Kind::Uni, set);
-            let old = was.outputs(level, kind);
-            let columns = &mut self.asks.columns[set as usize];
-            let outputs = &mut self.asks.outputs[set as usize];
-            turn(input, old, row.outputs(level, kind), columns, outputs);
-        }
-        self.rows[input as usize] = *row;
     }
 
     /// Puts another set of outputs in the place of the one that the input's row names at the level, 0 to 3, with the
