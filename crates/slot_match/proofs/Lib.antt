@@ -8,5 +8,6 @@ pub mod Maximal
 pub mod KeepingParts
 pub mod KeepingSets
 pub mod PartsBelow
+pub mod FedParts
 pub mod MarkBits
 pub mod FeedTables

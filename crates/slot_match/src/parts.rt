@@ -6,11 +6,11 @@ ghost use Rattle.slot_match.specs.Parts.{served_of};
 ghost use Rattle.slot_match.specs.Steps.{outputs_in};
 
 use crate::matching::{Fed, Match, Served};
-use rotating_pick::{PORT_COUNT, Ports, with};
+use rotating_pick::{PORT_COUNT, Ports, all, difference, lowest, with, without};
 
 impl Match {
     /// Writes each input's part of the match to the place of the input, None exactly where it is free. The
-    /// places beyond the ports stay. One pass over the outputs serves all inputs.
+    /// places beyond the ports stay. It takes a step for each port.
     pub fn put_parts(&self, parts: &mut [Option<Served>; PORT_COUNT])
         ensures parts { (i : ℕ) → i < length self.now → slice_index_or parts.new i None ≡ served_of self.now i }
         ensures others { drop (length self.now) parts.new ≡ drop (length self.now) parts.old }
@@ -19,17 +19,65 @@ impl Match {
         self.fill_parts(&mut parts[..ports]);
     }
 
+    /// Does the same as [`Match::put_parts`] where only the inputs `before` can have a part, those of an earlier match.
+    /// It takes a step for each of these inputs, and for each output that is matched.
+    pub fn change_parts(&self, parts: &mut [Option<Served>; PORT_COUNT], before: Ports)
+        requires inside { (i : ℕ) → Has before i → i < length self.now }
+        requires free { (i : ℕ) → i < length self.now → (Has before i → ⊥) → slice_index_or parts.old i None ≡ None }
+        ensures parts { (i : ℕ) → i < length self.now → slice_index_or parts.new i None ≡ served_of self.now i }
+        ensures others { drop (length self.now) parts.new ≡ drop (length self.now) parts.old }
+    {
+        let ports = self.ports() as usize;
+        self.replace_parts(&mut parts[..ports], before);
+    }
+
     // Writes each input's part of the match to the place of the input. There are as many places as ports.
     fn fill_parts(&self, parts: &mut [Option<Served>])
         requires { length parts.old ≡ length self.now }
         ensures { parts.new ≡ map (served_of self.now) (range_with_len 0 (length self.now)) }
     {
         parts.fill(None);
-        for output in 0..self.ports() {
+        self.put_fed(parts);
+    }
+
+    // The same, where only these inputs can have a part.
+    fn replace_parts(&self, parts: &mut [Option<Served>], before: Ports)
+        requires count { length parts.old ≡ length self.now }
+        requires inside { (i : ℕ) → Has before i → i < length self.now }
+        requires free { (i : ℕ) → i < length self.now → (Has before i → ⊥) → slice_index_or parts.old i None ≡ None }
+        ensures { parts.new ≡ map (served_of self.now) (range_with_len 0 (length self.now)) }
+    {
+        clear_parts(parts, before);
+        self.put_fed(parts);
+    }
+
+    // Writes the part of each input that is matched to the place of the input, where no input has a part.
+    fn put_fed(&self, parts: &mut [Option<Served>])
+        requires count { length parts.old ≡ length self.now }
+        requires empty { (i : ℕ) → i < length self.now → slice_index_or parts.old i None ≡ None }
+        ensures { parts.new ≡ map (served_of self.now) (range_with_len 0 (length self.now)) }
+    {
+        let mut rest = difference(all(self.ports()), self.free_outputs());
+        while let Some(output) = lowest(rest) {
+            rest = without(rest, output);
             if let Some(fed) = self.fed(output) {
                 add_output(&mut parts[fed.input as usize], output, fed);
             }
         }
+    }
+}
+
+// Takes the parts of these inputs away.
+fn clear_parts(parts: &mut [Option<Served>], inputs: Ports)
+    requires { (i : ℕ) → Has inputs i → i < length parts.old }
+    ensures count { length parts.new ≡ length parts.old }
+    ensures gone { (i : ℕ) → Has inputs i → slice_index_or parts.new i None ≡ None }
+    ensures others { (i : ℕ) → (Has inputs i → ⊥) → slice_index_or parts.new i None ≡ slice_index_or parts.old i None }
+{
+    let mut rest = inputs;
+    while let Some(input) = lowest(rest) {
+        rest = without(rest, input);
+        parts[input as usize] = None;
     }
 }
 

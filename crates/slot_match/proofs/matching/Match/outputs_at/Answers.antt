@@ -1,4 +1,4 @@
-use Rattle.std.proofs.Common.{ℕ, ◌<◌, ◌↔◌, subst}
+use Rattle.std.proofs.Common.{ℕ, ◌↔◌, subst}
 use Rattle.rotating_pick.specs.PortSets.{Has}
 use Rattle.slot_match.specs.Matches.{Serves}
 use Rattle.slot_match.proofs.Kept.{Has-fed_alike}
