@@ -24,7 +24,7 @@ prefix_is a b j clear same =
     let product : 2 ^ j * (a / 2 ^ j) ≡ 2 ^ j * (b / 2 ^ j) = ap (λ (q : ℕ). 2 ^ j * q) same in
     omega arith
 
-prefix_has : (a j : ℕ) → (a - a % 2 ^ j) / 2 ^ j ≡ a / 2 ^ j
+pub prefix_has : (a j : ℕ) → (a - a % 2 ^ j) / 2 ^ j ≡ a / 2 ^ j
 prefix_has a j =
     let some : 0 < 2 ^ j = pow_pos j in
     let whole : a - a % 2 ^ j ≡ 2 ^ j * (a / 2 ^ j) = omega arith in
@@ -61,7 +61,7 @@ abbrev pub ArePrefixes : List RouteLine → Type 0
 ArePrefixes table = All (λ line. IsPrefix line.target) table
 
 -- a line without the prefix can be left out
-skipped : (target : Target) (line : RouteLine) (more : List RouteLine) → line_with target (line ∷ more) ≡ None → (is_same_target line.target target ≡ false)
+pub skipped : (target : Target) (line : RouteLine) (more : List RouteLine) → line_with target (line ∷ more) ≡ None → (is_same_target line.target target ≡ false)
     × (line_with target more ≡ None)
 skipped target line more e =
     elim (cases_Bool (is_same_target line.target target)) [

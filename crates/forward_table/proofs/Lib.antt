@@ -1,3 +1,4 @@
+pub mod Blocks
 pub mod Covering
 pub mod Indexing
 pub mod Placing

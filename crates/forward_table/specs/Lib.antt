@@ -7,3 +7,4 @@ pub mod Routing
 pub mod IndexSteps
 pub mod Steps
 pub mod Texts
+pub mod CacheSteps

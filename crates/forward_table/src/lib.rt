@@ -12,6 +12,7 @@ mod limits;
 mod lookup;
 mod ordered_lines;
 mod reading;
+mod route_cache;
 mod route_lines;
 mod text;
 
@@ -19,4 +20,5 @@ pub use faults::TableFault;
 pub use limits::MAX_LINES;
 pub use lookup::Table;
 pub use reading::read_table;
+pub use route_cache::RouteCache;
 pub use route_lines::Route;

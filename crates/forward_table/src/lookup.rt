@@ -1,4 +1,4 @@
-ghost use Rattle.std.specs.Prelude.{◌≡◌, ◌≢◌, ◌↔◌, ℕ, ◌-◌, ◌≤◌, None, List, [], ◌∷◌, ◌++◌, length, map, All, Contains, IfSome, IfOk, IfErr, IsTrue};
+ghost use Rattle.std.specs.Prelude.{◌≡◌, ◌≢◌, ◌↔◌, ℕ, ◌-◌, ◌≤◌, Some, None, List, [], ◌∷◌, ◌++◌, length, map, All, Contains, IfSome, IfOk, IfErr, IsTrue};
 ghost use Rattle.std.specs.Prelude.{option_map, count_ones};
 ghost use Rattle.forward_table.specs.IndexSteps.{IsWithLength};
 ghost use Rattle.forward_table.specs.Targets.{IsPrefix};
@@ -7,8 +7,8 @@ ghost use Rattle.forward_table.specs.Routing.{covering, longest, serving_line, r
 
 use crate::faults::TableFault;
 use crate::ordered_lines::{line_of, longest_of, place_of};
-use crate::route_lines::{ADDRESS_BITS, Route, RouteLine, Target};
-use rotating_pick::with;
+use crate::route_lines::{ADDRESS_BITS, Route, RouteLine, Target, without_host_bits};
+use rotating_pick::{lowest, with};
 use std::alloc::Global;
 use std::marker::Model;
 
@@ -87,6 +87,15 @@ impl Table {
         ensures line { IfSome result (Contains (map (λ line. line.route) self.now)) }
     {
         Some(self.serving_line(address)?.route)
+    }
+
+    /// An address with the same route, which many have in common: the address without the last bits that
+    /// are host bits to every line.
+    pub(crate) fn block_of(&self, address: u32) -> u32
+        ensures { route_of self.now (Some result) ≡ route_of self.now (Some address) }
+    {
+        let host_bits = lowest(self.lengths).unwrap_or(ADDRESS_BITS);
+        without_host_bits(address, host_bits)
     }
 
     /// How many route lines the text has.
