@@ -183,6 +183,7 @@ module _ (scheduler : Scheduler) (plan : SwitchPlan) (slot next : ℕ) (skipped 
           count = is.outputs.count;
           come = λ j output at. come j output (is.outputs.come j output at);
         };
+        parts = is.parts;
         resting = rests-still scheduler plan t next skipped.idle switch.matched switch.inputs some
             (subst (λ s. AreResting (map noted_of (schedule_under scheduler plan s)) switch.matched switch.inputs) begins is.resting);
       }

@@ -82,13 +82,14 @@ pub record IsSwitch (scheduler : Scheduler) (plan : SwitchPlan) (t : ℕ) (switc
   pub meter_count : switch.meter.count ≡ t
   pub noted : HasNoted switch.meter (map noted_of (schedule_under scheduler plan t))
 
--- Before slot t of the run: the slots before it are made, what slot t - 1 granted has come to the outputs, and inputs that the last
--- match does not serve ask for what waits.
+-- Before slot t of the run: the slots before it are made, what slot t - 1 granted has come to the outputs, the parts are those of the
+-- last match, and inputs that it does not serve ask for what waits.
 pub record IsBefore (scheduler : Scheduler) (plan : SwitchPlan) (t : ℕ) (switch : Switch) : Type 0 where
   pub switch_is : IsSwitch scheduler plan t switch
   pub inputs : AreInputs scheduler plan t false switch.inputs
   pub names : AreNames scheduler plan t switch.names
   pub outputs : AreOutputs scheduler plan (t + 1) switch.outputs.items
+  pub parts : (i : ℕ) → i < ports_of plan → slice_index_or switch.parts i None ≡ served_of switch.matched i
   pub resting : AreResting (map noted_of (schedule_under scheduler plan t)) switch.matched switch.inputs
 
 -- In slot t of the run, which is decided: the packets of the slot have arrived, and nothing was served yet.

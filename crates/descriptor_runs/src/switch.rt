@@ -52,7 +52,7 @@ pub(crate) struct Switch {
     pub(crate) matched: Match,
     /// How its rounds were used.
     pub(crate) numbers: RoundsUsed,
-    /// The parts of all inputs in it, which are written over.
+    /// The parts of all inputs in it.
     pub(crate) parts: [Option<Served>; PORT_COUNT],
     /// The names of the cells that it grants, by input.
     pub(crate) names: CellNames,
@@ -121,7 +121,7 @@ impl Switch {
             &mut self.pointers,
             &mut self.matched,
         );
-        self.matched.put_parts(&mut self.parts);
+        self.matched.change_parts(&mut self.parts, before);
         // The queues of all other inputs wait as they did in the slot before.
         let news = union(came, union(before, served_inputs(&self.matched)));
         let rows = self.inputs.columns().rows();

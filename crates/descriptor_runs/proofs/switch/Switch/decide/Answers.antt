@@ -2,6 +2,7 @@ use Rattle.std.proofs.Common.{◌≡◌, ◌∙◌, ◌+◌, suc, List, map, Opt
 use Rattle.slot_match.specs.declared.matching.Fed.{Fed}
 use Rattle.slot_match.specs.Parts.{served_of}
 use Rattle.slot_match.specs.Rows.{AreWithin}
+use Rattle.slot_match.proofs.ServedParts.{served_of-free}
 use Rattle.eslip_rounds.specs.Slots.{Decision}
 use Rattle.named_schedulers.specs.Named.{decision_named}
 use Rattle.slot_histories.specs.Slots.{places_under}
@@ -9,6 +10,7 @@ use Rattle.service_bound.specs.Waits.{noted_of}
 use Rattle.run_laws.specs.Runs.{setup_for, posts_under}
 use Rattle.run_laws.specs.Sums.{schedule_under}
 use Rattle.descriptor_runs.proofs.DecidedSlots.{rows-within, ports-are, can-decide, has-parts, decision-is, noted, kept}
+use Rattle.descriptor_runs.proofs.ServedPorts.{free-unless}
 use Rattle.descriptor_runs.proofs.switch.Switch.decide.Goals as goal
 
 pub let_in-came-requires : goal.let_in-came-requires
@@ -22,6 +24,28 @@ decide_over-self-requires c =
     let (scheduler, plan, scheduling, good, countable, below, is) = c.requires in
     can-decide scheduler scheduling plan good c.args.slot c.args.self.now is c.let_in-came.new.self (c.let_in-came.ensures.arrived scheduler plan is.inputs)
     c.columns.result.now c.columns.ensures c.ports-ports.result c.ports-ports.ensures.value
+
+pub change_parts-requires-clause-inside : goal.change_parts-requires-clause-inside
+change_parts-requires-clause-inside c = λ i has.
+    let switch = c.args.self.now in
+    let (scheduler, plan, scheduling, good, countable, below, is) = c.requires in
+    let ports_are = ports-are scheduler scheduling plan good c.args.slot switch is c.let_in-came.new.self
+    (c.let_in-came.ensures.arrived scheduler plan is.inputs) c.columns.result.now c.columns.ensures c.ports-ports.result c.ports-ports.ensures.value in
+    let inside = ((c.served_inputs-before.ensures i).0 has).0 in
+    let count = c.decide_over-self.ensures.decided.whole.count in
+    let long = is.switch_is.matched in
+    omega arith
+
+pub change_parts-requires-clause-free : goal.change_parts-requires-clause-free
+change_parts-requires-clause-free c = λ i inside lacks.
+    let switch = c.args.self.now in
+    let (scheduler, plan, scheduling, good, countable, below, is) = c.requires in
+    let ports_are = ports-are scheduler scheduling plan good c.args.slot switch is c.let_in-came.new.self
+    (c.let_in-came.ensures.arrived scheduler plan is.inputs) c.columns.result.now c.columns.ensures c.ports-ports.result c.ports-ports.ensures.value in
+    let count = c.decide_over-self.ensures.decided.whole.count in
+    let long = is.switch_is.matched in
+    is.parts i (omega arith)
+    ∙ served_of-free switch.matched i (free-unless switch.matched c.served_inputs-before.result i c.served_inputs-before.ensures (omega arith) lacks)
 
 pub note_news-requires-clause-rows : goal.note_news-requires-clause-rows
 note_news-requires-clause-rows c =
@@ -47,7 +71,7 @@ note_news-requires-clause-kept c =
       matched,
       is.switch_is.noted,
       has-parts scheduler scheduling plan good t switch is inputs are rows c.columns.ensures ports c.ports-ports.ensures.value matched
-          c.put_parts.new.parts whole c.put_parts.ensures.parts,
+          c.change_parts.new.parts whole c.change_parts.ensures.parts,
       kept scheduler scheduling plan good t switch is inputs are c.columns-2.result.now c.columns-2.ensures c.rows-rows.result.now c.rows-rows.ensures
           switch.meter.ports is.switch_is.meter_ports matched (whole.count ∙ ports_are) c.let_in-came.result
           c.served_inputs-before.result c.served_inputs.result c.union-news.result c.let_in-came.ensures.others
@@ -72,8 +96,8 @@ returns-clause-decided c = λ scheduler plan scheduling good is.
     let whole = c.decide_over-self.ensures.decided.whole in
     let count = whole.count ∙ ports-are scheduler scheduling plan good t switch is inputs are rows rows_are ports ports_are in
     let matched = c.decide_over-self.new.out in
-    let parts = has-parts scheduler scheduling plan good t switch is inputs are rows rows_are ports ports_are matched c.put_parts.new.parts whole
-    c.put_parts.ensures.parts in
+    let parts = has-parts scheduler scheduling plan good t switch is inputs are rows rows_are ports ports_are matched c.change_parts.new.parts whole
+    c.change_parts.ensures.parts in
     record {
       switch_is = record {
         decides = ap decision_named c.decide_over-self.ensures.name ∙ is.switch_is.decides;
@@ -93,7 +117,7 @@ returns-clause-decided c = λ scheduler plan scheduling good is.
       outputs = is.outputs;
       matched = matched_is;
       numbers = ap (λ (d : Decision). d.numbers) decided;
-      parts = λ i inside. c.put_parts.ensures.parts i (omega arith) ∙ ap (λ (matched : List (Option Fed)). served_of matched i) matched_is;
+      parts = λ i inside. c.change_parts.ensures.parts i (omega arith) ∙ ap (λ (matched : List (Option Fed)). served_of matched i) matched_is;
     }
 
 pub returns-clause-activity : goal.returns-clause-activity

@@ -1,4 +1,4 @@
-use Rattle.std.proofs.Common.{◌≡◌, ◌∙◌, [], None, Some, slice_index_or, length, map, refl, sym, ap, subst, arith}
+use Rattle.std.proofs.Common.{◌≡◌, ◌∙◌, List, [], Option, None, Some, slice_index_or, length, map, refl, sym, ap, subst, arith}
 use Rattle.std.specs.Prelude.{slice_get, is_some}
 use Rattle.std.specs.Option.{option_map}
 use Rattle.std.proofs.lemmas.List.{length-map}
@@ -6,6 +6,11 @@ use Rattle.std.proofs.lemmas.List.Sums.{get_or-le-sum_by}
 use Rattle.std.proofs.lemmas.Option.{slice_get-map, slice_get_within, get_or_from_slice_get}
 use Rattle.std_lemmas.proofs.Lists.{get_or-same}
 use Rattle.rotating_pick.specs.declared.limits.TheConstants.{MAX_PORTS}
+use Rattle.slot_match.specs.declared.matching.Fed.{Fed}
+use Rattle.slot_match.specs.Matches.{unmatched}
+use Rattle.slot_match.specs.Parts.{served_of}
+use Rattle.slot_match.proofs.Kept.{nobody_at_first}
+use Rattle.slot_match.proofs.ServedParts.{served_of-free}
 use Rattle.pointer_state.specs.Places.{places_at_first}
 use Rattle.named_schedulers.specs.Named.{decision_named}
 use Rattle.card_core.specs.Plans.{Plan, plan_of}
@@ -59,6 +64,8 @@ returns-clause-before c =
         come = λ j output at. subst (HasCome (decision_named c.args.scheduler) plan 1 j) (sym (c.in_ok-outputs.ensures.each j output at))
             (new_come c.args.captures (decision_named c.args.scheduler) plan j);
       };
+      parts = λ i inside. get_or-same None MAX_PORTS i ∙ sym (ap (λ (m : List (Option Fed)). served_of m i) c.new-3.ensures.value
+          ∙ served_of-free (unmatched c.len-ports.result) i (nobody_at_first c.len-ports.result i));
       resting = rests-first c.in_ok-make.field-0 c.new-3.result c.in_ok-make.ensures.served;
     }
 

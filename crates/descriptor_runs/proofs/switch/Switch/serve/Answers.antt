@@ -1,5 +1,7 @@
-use Rattle.std.proofs.Common.{◌∙◌, map, ap}
+use Rattle.std.proofs.Common.{◌∙◌, List, map, Option, ap, sym}
 use Rattle.std.proofs.lemmas.Result.{on_ok_weaker}
+use Rattle.slot_match.specs.declared.matching.Fed.{Fed}
+use Rattle.slot_match.specs.Parts.{served_of}
 use Rattle.descriptor_runs.specs.InputSteps.{InputValue}
 use Rattle.descriptor_runs.proofs.Resting.{rests-after}
 use Rattle.descriptor_runs.proofs.ServedSlots.{outputs-given, outputs-fed}
@@ -53,6 +55,7 @@ returns-clause-served c = on_ok_weaker c.feed_outputs.result
       names = names;
       outputs = outputs-fed scheduler plan t switch is given same c.feed_outputs.new.outputs c.feed_outputs.auto.outputs
           (fed scheduler plan t scheduling good plans granted is.matched is.switch_is.nano (outputs-given scheduler plan t switch is given same));
+      parts = λ i inside. is.parts i inside ∙ ap (λ (m : List (Option Fed)). served_of m i) (sym is.matched);
       resting = rests-after scheduler plan t switch is c.serve_inputs.new.inputs c.serve_inputs.ensures.others;
     })
     c.feed_outputs.ensures.fed
