@@ -48,3 +48,22 @@ fn head_goes_on(rt: HostRuntime) {
     assert_eq!(rt; matched.outputs_at(0, Kind::Uni), 0b001);
     assert_eq!(rt; matched.outputs_at(1, Kind::Uni), 0);
 }
+
+// Input 2 had the part of the match before, and input 0 has it now.
+#[test]
+fn part_passes_on(rt: HostRuntime) {
+    let part = Served {
+        outputs: 0b001,
+        level: 0,
+        kind: Kind::Uni,
+    };
+    let mut parts = [None; PORT_COUNT];
+    parts[2] = Some(part);
+    let mut matched = Match::new(3);
+    assert!(rt; matched.may_add(0, 0b001, 0, Kind::Uni));
+    matched.add(0, 0b001, 0, Kind::Uni);
+    matched.change_parts(&mut parts, 0b100);
+    assert_eq!(rt; parts[0], Some(part));
+    assert_eq!(rt; parts[1], None);
+    assert_eq!(rt; parts[2], None);
+}
