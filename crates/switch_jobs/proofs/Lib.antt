@@ -1,3 +1,4 @@
+mod Drained
 mod Records
 pub mod Members
 mod Planning

@@ -1,44 +1,74 @@
-ghost use Rattle.std.specs.Prelude.{◌≡◌, ℕ, ◌+◌, List, ◌++◌, map, length, take, IfOk};
+ghost use Rattle.std.specs.Prelude.{◌≡◌, ℕ, ◌≤◌, List, ◌++◌, map, length, OnOk, IfOk};
 ghost use Rattle.std.specs.List.{concat, flat_map};
-ghost use Rattle.pcap_records.specs.Output.{capture_text, record_text};
+ghost use Rattle.pcap_records.specs.Output.{capture_text, fraction_of, header_text, record_text};
 ghost use Rattle.switch_jobs.specs.Captures.{AreLengths, IsCut};
 
+use byteorder::{BigEndian, ByteOrder, LittleEndian};
 use card_core::CardOut;
-use pcap_records::{FILE_HEADER_BYTES, Link, write_header, write_record};
+use pcap_records::{FILE_HEADER_BYTES, Link, RECORD_HEADER_BYTES, write_header};
 use rotating_pick::OutOfMemory;
-use std::alloc::Global;
+use std::alloc::AllocError;
 
 /// The output capture of what a card leaves: a record for each message, of nanoseconds where `nano` says so
-/// and else of microseconds. The messages have 16 to 65,551 bytes and are all of the body. The only error
-/// is want of memory.
-pub fn output_bytes(
-    alloc: Global,
-    card: &CardOut,
-    nano: bool,
-    link: Link,
-) -> Result<Vec<u8>, OutOfMemory>
-    requires { IsCut card.now }
-    ensures { (messages : List (List ℕ)) → card.now.body.items ≡ concat messages → card.now.lens.items ≡ map length messages
+/// and else of microseconds. The messages have 16 to 65,551 bytes and are all of the body. Each becomes its
+/// record where it stands, behind room for the header. The only error is want of memory.
+pub fn output_bytes(card: CardOut, nano: bool, link: Link) -> Result<Vec<u8>, OutOfMemory>
+    requires { IsCut card }
+    ensures { (messages : List (List ℕ)) → card.body.items ≡ concat messages → card.lens.items ≡ map length messages
         → IfOk result (λ bytes. bytes.items ≡ capture_text nano link messages) }
 {
-    let mut bytes = vec![in alloc; 0; FILE_HEADER_BYTES + card.body.len()]?;
-    write_header(&mut bytes, nano, link);
-    write_records(&mut bytes, &card.body, &card.lens, nano);
+    let CardOut { body, lens, .. } = card;
+    let mut bytes = body;
+    turn_messages(&mut bytes, &lens, nano);
+    put_header(&mut bytes, nano, link)?;
     Ok(bytes)
 }
 
-// Writes the records of the messages after the header, where the buffer has just the room for them.
-fn write_records(buffer: &mut [u8], body: &[u8], lens: &[u32], nano: bool)
-    requires cut { AreLengths lens.now (length body.now) }
-    requires room { length buffer.old ≡ 24 + length body.now }
-    ensures { (messages : List (List ℕ)) → body.now ≡ concat messages → lens.now ≡ map length messages
-        → buffer.new ≡ take 24 buffer.old ++ flat_map (record_text nano) messages }
+// Puts the header of a capture before its records. The only error is want of memory.
+fn put_header(records: &mut Vec<u8>, nano: bool, link: Link) -> Result<(), AllocError>
+    ensures { OnOk result (records.new.items ≡ header_text nano link ++ records.old.items) }
 {
-    let mut at = FILE_HEADER_BYTES;
+    let mut header = [0; FILE_HEADER_BYTES];
+    write_header(&mut header, nano, link);
+    records.reserve_exact(FILE_HEADER_BYTES)?;
+    records.splice(0..0, header)?;
+    Ok(())
+}
+
+// Makes each message its record, where it stands.
+fn turn_messages(bytes: &mut [u8], lens: &[u32], nano: bool)
+    requires { AreLengths lens.now (length bytes.old) }
+    ensures { (messages : List (List ℕ)) → bytes.old ≡ concat messages → lens.now ≡ map length messages
+        → bytes.new ≡ flat_map (record_text nano) messages }
+{
     let mut start = 0;
     for len in lens {
         let end = start + *len as usize;
-        at = write_record(buffer, at, &body[start..end], nano);
+        turn_message(&mut bytes[start..end], nano);
         start = end;
     }
+}
+
+// Makes a message its record: the numbers of its header are turned round, the nanoseconds come in the unit of the
+// file, and the captured length is that of the bytes that follow.
+fn turn_message(message: &mut [u8], nano: bool)
+    requires header { 16 ≤ length message.old }
+    requires size { length message.old ≤ 262160 }
+    ensures { message.new ≡ record_text nano message.old }
+{
+    let seconds = BigEndian::read_u32(message);
+    let nanos = BigEndian::read_u32(&message[4..]);
+    let captured = message.len() - RECORD_HEADER_BYTES;
+    let original = BigEndian::read_u32(&message[12..]);
+    LittleEndian::write_u32(message, seconds);
+    LittleEndian::write_u32(&mut message[4..], fraction_in(nano, nanos));
+    LittleEndian::write_u32(&mut message[8..], captured as u32);
+    LittleEndian::write_u32(&mut message[12..], original);
+}
+
+// Nanoseconds in the unit of a file, rounded down.
+fn fraction_in(nano: bool, nanos: u32) -> u32
+    ensures { result ≡ fraction_of nano nanos }
+{
+    if nano { nanos } else { nanos / 1_000 }
 }

@@ -25,7 +25,7 @@ pub(crate) fn output_captures(
 {
     let mut captures = Vec::new(alloc);
     for output in outputs {
-        captures.push(output_bytes(alloc, &output, nano, link)?)?;
+        captures.push(output_bytes(output, nano, link)?)?;
     }
     Ok(captures)
 }
