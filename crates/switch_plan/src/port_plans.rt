@@ -11,7 +11,7 @@ use crate::port_rooms::{Brought, brought_by};
 use crate::traffic::stamp_of;
 use card_core::Planned;
 use cell_cutter::MAX_FORWARDED_BYTES;
-use forward_table::{Route, Table};
+use forward_table::{Route, RouteCache, Table};
 use frame_fields::destination;
 use line_pace::Pace;
 use pcap_records::{Capture, Link, Stored};
@@ -122,12 +122,13 @@ fn packets_of(
     ensures countable { IfOk result (λ answer. AreCountable answer.0.items) }
 {
     let mut packets = Vec::with_capacity(alloc, capture.packets.len())?;
+    let mut routes = RouteCache::new(table);
     let mut free = 0;
     for k in 0..capture.packets.len() {
         let stored = capture.packets[k];
         let arrival = pace.arrival(free, &stamp_of(&stored));
         let frame = capture.body(k as u32);
-        packets.push_reserved(planned(table, capture.link, stored, frame, low_bits(arrival)));
+        packets.push_reserved(planned(&mut routes, capture.link, stored, frame, low_bits(arrival)));
         free = arrival + 1;
     }
     Ok((packets, free))
@@ -141,13 +142,20 @@ fn low_bits(slot: u64) -> u32
 }
 
 // A packet that arrives in a slot.
-fn planned(table: &Table, link: Link, packet: Stored, frame: &[u8], slot: u32) -> Planned
+fn planned(
+    routes: &mut RouteCache<'_>,
+    link: Link,
+    packet: Stored,
+    frame: &[u8],
+    slot: u32,
+) -> Planned
     requires { length frame.now ≡ packet.len }
-    ensures packet { (bytes : List ℕ) → captured_in bytes packet ≡ frame.now → unplaced result ≡ planned table.now link (packet_in bytes packet) slot }
+    ensures packet { (bytes : List ℕ) → captured_in bytes packet ≡ frame.now → unplaced result ≡ planned routes.old link (packet_in bytes packet) slot }
     ensures start { result.start ≡ packet.start }
     ensures forwarded { IsForwardable result }
+    ensures table { routes.new ≡ routes.old }
 {
-    let route = route_for(table, link, frame);
+    let route = route_for(routes, link, frame);
     Planned {
         seconds: packet.seconds,
         nanos: packet.nanos,
@@ -161,13 +169,14 @@ fn planned(table: &Table, link: Link, packet: Stored, frame: &[u8], slot: u32) -
 }
 
 // The route of a frame, none where it is too long to be forwarded or no line of the table serves it.
-fn route_for(table: &Table, link: Link, frame: &[u8]) -> Option<Route>
-    ensures { result ≡ route_for table.now link frame.now }
+fn route_for(routes: &mut RouteCache<'_>, link: Link, frame: &[u8]) -> Option<Route>
+    ensures route { result ≡ route_for routes.old link frame.now }
+    ensures table { routes.new ≡ routes.old }
 {
     if frame.len() > MAX_FORWARDED_BYTES {
         None
     } else {
-        table.route(destination(link, frame))
+        routes.route(destination(link, frame))
     }
 }
 

@@ -30,6 +30,7 @@ loop-k-init c =
         places = ap (map _) none;
         forwarded = subst (All IsForwardable) (sym none) (All-nil IsForwardable);
       };
+      routes = c.new-routes.ensures;
       long = c.in_ok-packets.ensures.len;
       room = let room = c.in_ok-packets.ensures.capacity in omega arith;
     }
@@ -116,12 +117,14 @@ loop-k-preserved c =
             bound = c.arrival-arrival.ensures.bound;
             packet_is = λ within.
                 c.planned.ensures.packet capture.bytes.items frame
+                ∙ ap (λ table. planned table capture.link (packet_in capture.bytes.items c.index.result.now) c.low_bits.result) c.loop-k.invariant.routes
                 ∙ ap (λ s. planned c.args.table.now capture.link (packet_in capture.bytes.items s) c.low_bits.result) same
                 ∙ ap (planned c.args.table.now capture.link (packet_in capture.bytes.items stored)) (c.low_bits.ensures within);
             start = c.planned.ensures.start ∙ ap (λ (s : Stored). s.start) same;
             forwarded = c.planned.ensures.forwarded;
           })
           c.push_reserved.ensures.items;
+      routes = c.planned.ensures.table ∙ c.loop-k.invariant.routes;
       long = omega arith;
       room = omega arith;
     }

@@ -15,6 +15,6 @@ goes_short false n route test goes = grind (arith, nat_tests, test)
 pub returns-clause-forwarded : goal.returns-clause-forwarded
 returns-clause-forwarded c goes =
     let frame = c.args.frame.now in
-    let short = goes_short (is_oversize frame) (length frame) (route_of c.args.table.now (destination_of c.args.link frame)) refl
-    (λ none. goes (c.fan_of.ensures ∙ ap fan_of c.route_for-route.ensures ∙ none)) in
+    let short = goes_short (is_oversize frame) (length frame) (route_of c.args.routes.now (destination_of c.args.link frame)) refl
+    (λ none. goes (c.fan_of.ensures ∙ ap fan_of c.route_for-route.ensures.route ∙ none)) in
     subst (λ n. n ≤ 65535) c.requires short
