@@ -1,5 +1,5 @@
-ghost use Rattle.std.specs.Prelude.{◌≡◌, ◌≢◌, ◌↔◌, ℕ, ◌-◌, ◌≤◌, Some, None, List, [], ◌∷◌, ◌++◌, length, map, All, Contains, IfSome, IfOk, IfErr, IsTrue};
-ghost use Rattle.std.specs.Prelude.{option_map, count_ones};
+ghost use Rattle.std.specs.Prelude.{◌≡◌, ◌≢◌, ◌↔◌, ℕ, ◌-◌, ◌≤◌, Some, None, List, [], ◌∷◌, ◌++◌, length, map, Contains, IfSome, IfOk, IfErr};
+ghost use Rattle.std.specs.Prelude.{option_map};
 ghost use Rattle.forward_table.specs.IndexSteps.{IsWithLength};
 ghost use Rattle.forward_table.specs.Targets.{IsPrefix};
 ghost use Rattle.forward_table.specs.Reading.{line_with};
@@ -103,13 +103,6 @@ impl Table {
         ensures { result ≡ length self.now }
     {
         self.lines.len()
-    }
-
-    /// Whether every route line has level 0 and a fan-out of one port.
-    pub fn is_single_port(&self) -> bool
-        ensures { IsTrue result ↔ All (λ line. (line.route.level ≡ 0) × (count_ones line.route.fan ≡ 1)) self.now }
-    {
-        self.lines.iter().all(|line| line.route.level == 0 && line.route.fan.count_ones() == 1)
     }
 
     // The line that serves an address, or a packet without one.

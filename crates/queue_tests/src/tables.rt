@@ -1,20 +1,5 @@
-use forward_table::{TableFault, read_table};
-use rotating_pick::MAX_FILE_BYTES;
+use forward_table::TableFault;
 use std::test::Fail;
-
-#[test]
-fn tells_whether_each_line_has_one_port(rt: HostRuntime) -> Result<(), Fail> {
-    for (text, single) in [
-        ("10.0.0.0/24 0\n#\n10.0.1.0/24 1\n", true),
-        ("10.0.0.0/24 0\n10.0.1.0/24 1 1", false),
-        ("10.0.0.0/24 0,1", false),
-    ] {
-        assert!(rt; text.len() <= MAX_FILE_BYTES);
-        let table = read_table(rt.alloc(), text.as_bytes(), 2)?;
-        assert_eq!(rt; table.is_single_port(), single, "{text:?}");
-    }
-    Ok(())
-}
 
 #[test]
 fn faults_are_shown(rt: HostRuntime) -> Result<(), Fail> {

@@ -26,15 +26,6 @@ impl Model for Journal {
 }
 
 impl Journal {
-    /// The journal without the number of refused tries, as the core of the board keeps it.
-    pub fn core(&self) -> &board_state::Journal
-        ensures setup { result.now.setup ≡ self.now.setup }
-        ensures slots { result.now.slots ≡ self.now.slots }
-        ensures events { result.now.events ≡ self.now.events }
-    {
-        &self.journal
-    }
-
     /// The number of ports of the switch, 1 to 64.
     pub fn ports(&self) -> u32
         ensures { result ≡ self.now.setup.ports }
