@@ -33,18 +33,18 @@ done_theorem c kept none done = record {
   complete = λ s is fits no_fault. inl refl;
 }
 
-stopped : (c : Command) (told : Option Contents) (fault : CommandFault) → NeverFall c.was c.now → Stops c told fault
-    → GivesLine (line_of fault) told c.new (c.was ToErr) (c.now ToErr) → SimulationTheorem c (status_of fault)
-stopped c told Usage kept stops line = record {
-  meaning = inr (Usage, refl, record { told = told; stops = stops; line = line });
+stopped : (c : Command) (seen : Option Contents) (fault : CommandFault) → NeverFall c.was c.now → Stops c seen fault
+    → GivesLine (line_of fault) seen c.new (c.was ToErr) (c.now ToErr) → SimulationTheorem c (status_of fault)
+stopped c seen Usage kept stops line = record {
+  meaning = inr (Usage, refl, record { seen = seen; stops = stops; line = line });
   never_fall = kept;
   no_fault = λ is. absurd (omega (arith, is));
   usage = record { only = λ _. stops.0; every = λ _. inl refl };
   too_large = λ s is over. absurd (means_some c.simulation s is stops.0);
   complete = λ s is fits no_fault. absurd (means_some c.simulation s is stops.0);
 }
-stopped c told (TooManyCells cells) kept stops line = record {
-  meaning = inr (TooManyCells cells, refl, record { told = told; stops = stops; line = line });
+stopped c seen (TooManyCells cells) kept stops line = record {
+  meaning = inr (TooManyCells cells, refl, record { seen = seen; stops = stops; line = line });
   never_fall = kept;
   no_fault = λ is. absurd (omega (arith, is));
   usage = record { only = λ is. absurd (omega (arith, is)); every = λ is. absurd (means_some c.simulation stops.0.words stops.0.means is) };
@@ -52,16 +52,16 @@ stopped c told (TooManyCells cells) kept stops line = record {
   complete = λ s is fits no_fault. absurd
       (one_size c.simulation s stops.0.words is stops.0.means fits (omega (arith, stops.0.places, stops.0.over)));
 }
-stopped c told OutOfMemory kept stops line = record {
-  meaning = inr (OutOfMemory, refl, record { told = told; stops = stops; line = line });
+stopped c seen OutOfMemory kept stops line = record {
+  meaning = inr (OutOfMemory, refl, record { seen = seen; stops = stops; line = line });
   never_fall = kept;
   no_fault = λ is. absurd (omega (arith, is));
   usage = record { only = λ is. absurd (omega (arith, is)); every = λ _. inr refl };
   too_large = λ s is over. inr refl;
   complete = λ s is fits no_fault. inr refl;
 }
-stopped c told OutFault kept stops line = record {
-  meaning = inr (OutFault, refl, record { told = told; stops = stops; line = line });
+stopped c seen OutFault kept stops line = record {
+  meaning = inr (OutFault, refl, record { seen = seen; stops = stops; line = line });
   never_fall = kept;
   no_fault = λ is. absurd (omega (arith, is));
   usage = record { only = λ is. absurd (omega (arith, is)); every = λ is. absurd (means_some c.simulation stops.made.words stops.made.means is) };
@@ -79,7 +79,7 @@ module _ (words : List (List ℕ)) (old mid new : Option Contents) (was then now
     text = stops.text;
     made = stops.made;
     given = stops.given;
-    told_is = stops.told_is;
+    new_is = stops.new_is;
     rose = Rose-NeverFall was then now ToOut stops.rose after;
   }
 

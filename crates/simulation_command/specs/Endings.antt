@@ -58,22 +58,22 @@ pub record IsDone (c : Command) : Type 0 where
   pub given : c.new ≡ option_map (append_out text) c.old
 
 -- a call on standard output was refused, which was given a first part of the text
-pub record StopsAtOut (c : Command) (told : Option Contents) : Type 0 where
+pub record StopsAtOut (c : Command) (new : Option Contents) : Type 0 where
   pub text : List ℕ
   pub made : IsText c.simulation text
   pub given : ℕ
-  pub told_is : told ≡ option_map (append_out (take given text)) c.old
+  pub new_is : new ≡ option_map (append_out (take given text)) c.old
   pub rose : Rose (c.was ToOut) (c.now ToOut)
 
 -- why a command stops, and what it has made of the contents by then
 abbrev pub Stops : Command → Option Contents → CommandFault → Type 0
-Stops c told Usage = (c.simulation ≡ None) × (told ≡ c.old)
-Stops c told (TooManyCells cells) = IsTooLarge c.simulation cells × (told ≡ c.old)
-Stops c told OutOfMemory = told ≡ c.old
-Stops c told OutFault = StopsAtOut c told
+Stops c new Usage = (c.simulation ≡ None) × (new ≡ c.old)
+Stops c new (TooManyCells cells) = IsTooLarge c.simulation cells × (new ≡ c.old)
+Stops c new OutOfMemory = new ≡ c.old
+Stops c new OutFault = StopsAtOut c new
 
 -- the command stopped, and then the line of its fault was given to standard error
 pub record IsStopped (c : Command) (fault : CommandFault) : Type 0 where
-  pub told : Option Contents
-  pub stops : Stops c told fault
-  pub line : GivesLine (line_of fault) told c.new (c.was ToErr) (c.now ToErr)
+  pub seen : Option Contents
+  pub stops : Stops c seen fault
+  pub line : GivesLine (line_of fault) seen c.new (c.was ToErr) (c.now ToErr)
