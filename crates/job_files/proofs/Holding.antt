@@ -239,7 +239,7 @@ holds (gen g) texts c fits = holds_alone (gen g) texts c (gen_is_no_run g)
 holds (check words) texts c fits = holds_alone (check words) texts c (check_is_no_run words)
 holds (firm f) texts c fits = holds_alone (firm f) texts c (firm_is_no_run f)
 
-pub holds_told : (job : JobWords) (texts : Texts) (old new : Option Contents) → length texts.outputs ≤ 2 ^ 64 → new ≡ option_map (put_texts job texts) old
+pub holds_seen : (job : JobWords) (texts : Texts) (old new : Option Contents) → length texts.outputs ≤ 2 ^ 64 → new ≡ option_map (put_texts job texts) old
     → IfSome old (λ c. IfSome new (HoldsTexts job texts c))
-holds_told job texts None new fits written = tt
-holds_told job texts (Some c) new fits written = rw written (holds job texts c fits)
+holds_seen job texts None new fits written = tt
+holds_seen job texts (Some c) new fits written = rw written (holds job texts c fits)

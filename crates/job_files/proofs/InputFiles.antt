@@ -4,9 +4,10 @@ use Rattle.std.specs.Prelude.{IfSome, Result, Vec, is_ok, true, false, if◌then
 use Rattle.std.proofs.lemmas.List.{length_push, map_more, map_push, take_more}
 use Rattle.std.proofs.lemmas.List.Elements.{All-more, All-push}
 use Rattle.outside.specs.Contents.{Contents, Stays}
+use Rattle.outside.specs.WholeFiles.{Fits}
 use Rattle.outside.proofs.Staying.{IfSome-Stays}
 use Rattle.switch_words.specs.Limits.{IsUpTo}
-use Rattle.job_files.specs.Inputs.{AreFilesRead, CaptureFits, CapturesRead, EarlierFit}
+use Rattle.job_files.specs.Inputs.{AreFilesRead, CapturesRead, EarlierFit}
 use Rattle.job_files.specs.FileSteps.{AreOfSize}
 use Rattle.rotating_pick.specs.declared.limits.TheConstants.{MAX_PORTS}
 use Rattle.switch_plan.specs.ReadingSteps.{bytes_of_files}
@@ -23,15 +24,15 @@ CapturesRead-Stays long names old new captures stays read = record {
 }
 
 -- one file more is there
-pub earlier_more : (r : ReadWords) (told : Option Contents) (port : ℕ) (bytes : List ℕ) → port < length r.inputs → IfSome told (EarlierFit r (Capture port))
-    → IfSome told (λ c. c.file (get_or r.inputs port []) ≡ Some bytes) → length bytes ≤ capture_bytes r.long → IfSome told (EarlierFit r (Capture (port + 1)))
+pub earlier_more : (r : ReadWords) (seen : Option Contents) (port : ℕ) (bytes : List ℕ) → port < length r.inputs → IfSome seen (EarlierFit r (Capture port))
+    → IfSome seen (λ c. c.file (get_or r.inputs port []) ≡ Some bytes) → length bytes ≤ capture_bytes r.long → IfSome seen (EarlierFit r (Capture (port + 1)))
 earlier_more r None port bytes within earlier there fits = tt
 earlier_more r (Some c) port bytes within earlier there fits =
-    (earlier.0, All-more (CaptureFits r.long c) r.inputs port [] within earlier.1 (bytes, there, fits))
+    (earlier.0, All-more (Fits (capture_bytes r.long) c) r.inputs port [] within earlier.1 (bytes, there, fits))
 
-there_more : (names : List (List ℕ)) (told : Option Contents) (i : ℕ) (captures : List (List ℕ)) (bytes : List ℕ) → i < length names
-    → IfSome told (λ c. map (λ name. c.file name) (take i names) ≡ map (λ b. Some b) captures) → IfSome told (λ c. c.file (get_or names i []) ≡ Some bytes)
-    → IfSome told (λ c. map (λ name. c.file name) (take (i + 1) names) ≡ map (λ b. Some b) (captures ++ bytes ∷ []))
+there_more : (names : List (List ℕ)) (seen : Option Contents) (i : ℕ) (captures : List (List ℕ)) (bytes : List ℕ) → i < length names
+    → IfSome seen (λ c. map (λ name. c.file name) (take i names) ≡ map (λ b. Some b) captures) → IfSome seen (λ c. c.file (get_or names i []) ≡ Some bytes)
+    → IfSome seen (λ c. map (λ name. c.file name) (take (i + 1) names) ≡ map (λ b. Some b) (captures ++ bytes ∷ []))
 there_more names None i captures bytes within there here = tt
 there_more names (Some c) i captures bytes within there here =
     map_more (λ name. c.file name) names i [] within
@@ -40,15 +41,15 @@ there_more names (Some c) i captures bytes within there here =
     ∙ sym (map_push (λ b. Some b) captures bytes)
 
 -- one capture more is read
-pub captures_more : (long : Bool) (names : List (List ℕ)) (told : Option Contents) (i : ℕ) (captures : List (List ℕ)) (bytes : List ℕ) → i < length names
-    → CapturesRead long (take i names) told captures
-    → IfSome told (λ c. c.file (get_or names i []) ≡ Some bytes) → length bytes ≤ capture_bytes long
-    → CapturesRead long (take (i + 1) names) told (captures ++ bytes ∷ [])
-captures_more long names told i captures bytes within read here fits = record {
+pub captures_more : (long : Bool) (names : List (List ℕ)) (seen : Option Contents) (i : ℕ) (captures : List (List ℕ)) (bytes : List ℕ) → i < length names
+    → CapturesRead long (take i names) seen captures
+    → IfSome seen (λ c. c.file (get_or names i []) ≡ Some bytes) → length bytes ≤ capture_bytes long
+    → CapturesRead long (take (i + 1) names) seen (captures ++ bytes ∷ [])
+captures_more long names seen i captures bytes within read here fits = record {
   count = length_push captures bytes ∙ ap (λ n. n + 1) read.count
       ∙ sym (ap length (take_more names i [] within) ∙ length_push (take i names) (get_or names i []));
   fit = All-push (λ b. length b ≤ capture_bytes long) captures bytes read.fit fits;
-  there = there_more names told i captures bytes within read.there here;
+  there = there_more names seen i captures bytes within read.there here;
 }
 
 -- what a push left, where it was not refused

@@ -90,29 +90,29 @@ puts_of r f name bytes a d o new name_is bytes_is puts =
     (subst (λ (bs : List ℕ). Puts r (record { name = name; bytes = bs }) a d o new) bytes_is puts)
 
 -- a call on one of the first files was refused
-stops_front : (first more : List NamedBytes) (place : ℕ) (old told : Option Contents) (was now : Place → ℕ) → place < length first
-    → StopsAt (get_or first place nameless) was now (option_map (put_files (take place first)) old) told
-    → StopsAtPlace (first ++ more) place old was now told
-stops_front first more place old told was now within stops =
+stops_front : (first more : List NamedBytes) (place : ℕ) (old new : Option Contents) (was now : Place → ℕ) → place < length first
+    → StopsAt (get_or first place nameless) was now (option_map (put_files (take place first)) old) new
+    → StopsAtPlace (first ++ more) place old was now new
+stops_front first more place old new was now within stops =
     let same = get_or_append_left first more nameless place within in
     let before : take place (first ++ more) ≡ take place first = take-append-le place first more (omega arith) in
     record {
       within = omega (arith, within, length-append first more);
-      stops = subst (λ (f : NamedBytes). StopsAt f was now (option_map (put_files (take place (first ++ more))) old) told) (sym same)
-          (subst (λ (fs : List NamedBytes). StopsAt (get_or first place nameless) was now (option_map (put_files fs) old) told) (sym before) stops);
+      stops = subst (λ (f : NamedBytes). StopsAt f was now (option_map (put_files (take place (first ++ more))) old) new) (sym same)
+          (subst (λ (fs : List NamedBytes). StopsAt (get_or first place nameless) was now (option_map (put_files fs) old) new) (sym before) stops);
     }
 
 -- a call on the file at a place before the packets file, after so many outputs, was refused
 pub stops_at_place : (outputs : ℕ) (first more : List NamedBytes) (text : List ℕ) (place : ℕ)
-    → (old told : Option Contents) (was now : Place → ℕ) → place < length first
-    → StopsAt (get_or first place nameless) was now (option_map (put_files (take place first)) old) told
-    → StopsPutting outputs (length first) (first ++ more) text (written_at place outputs) old was now told
-stops_at_place outputs first more text place old told was now within stops =
-    let at = stops_front first more place old told was now within stops in
+    → (old new : Option Contents) (was now : Place → ℕ) → place < length first
+    → StopsAt (get_or first place nameless) was now (option_map (put_files (take place first)) old) new
+    → StopsPutting outputs (length first) (first ++ more) text (written_at place outputs) old was now new
+stops_at_place outputs first more text place old new was now within stops =
+    let at = stops_front first more place old new was now within stops in
     elim (cases_lt place outputs) [
       | inl before ↦ rw (lt-ltb place outputs before) (before, at)
       | inr after ↦ elim (eqb_tells place outputs) [
-        | inl same ↦ rw (le-ltb place outputs after, same.0) (subst (λ (n : ℕ). StopsAtPlace (first ++ more) n old was now told) same.1 at)
+        | inl same ↦ rw (le-ltb place outputs after, same.0) (subst (λ (n : ℕ). StopsAtPlace (first ++ more) n old was now new) same.1 at)
         | inr other ↦ let differs = other.1 in rw (le-ltb place outputs after, other.0) (place, omega (arith, after, differs), within, at)
       ]
     ]
@@ -137,27 +137,27 @@ none_put None = refl
 none_put (Some c) = refl
 
 -- a call on one file alone was refused
-pub stops_alone : {T E : Type 0} (r : Result T E) (f : NamedBytes) (was now : Place → ℕ) (old told : Option Contents) → Puts r f was now old told
-    → OnErr r (StopsAtPlace (f ∷ []) 0 old was now told)
-stops_alone (Ok x) f was now old told puts = tt
-stops_alone (Err e) f was now old told puts =
-    record { within = omega arith; stops = subst (λ (o : Option Contents). StopsAt f was now o told) (sym (none_put old)) puts }
+pub stops_alone : {T E : Type 0} (r : Result T E) (f : NamedBytes) (was now : Place → ℕ) (old new : Option Contents) → Puts r f was now old new
+    → OnErr r (StopsAtPlace (f ∷ []) 0 old was now new)
+stops_alone (Ok x) f was now old new puts = tt
+stops_alone (Err e) f was now old new puts =
+    record { within = omega arith; stops = subst (λ (o : Option Contents). StopsAt f was now o new) (sym (none_put old)) puts }
 
 after_first : (first more : List NamedBytes) → get_or (first ++ more) (length first) nameless ≡ get_or more 0 nameless
 after_first [] more = refl
 after_first (f ∷ first) more = after_first first more
 
 -- a call on the file after the first was refused, which were put
-pub stops_after : (first more : List NamedBytes) (a b d : Place → ℕ) (old mid told : Option Contents) → NeverFall a b
-    → mid ≡ option_map (put_files first) old → StopsAtPlace more 0 mid b d told → StopsAtPlace (first ++ more) (length first) old a d told
-stops_after first more a b d old mid told kept put stops =
+pub stops_after : (first more : List NamedBytes) (a b d : Place → ℕ) (old mid new : Option Contents) → NeverFall a b
+    → mid ≡ option_map (put_files first) old → StopsAtPlace more 0 mid b d new → StopsAtPlace (first ++ more) (length first) old a d new
+stops_after first more a b d old mid new kept put stops =
     let same = after_first first more in
     let before = take-append_seam first more in
     let from : option_map (put_files (take (length first) (first ++ more))) old ≡ option_map (put_files []) mid =
     ap (λ fs. option_map (put_files fs) old) before ∙ sym put ∙ sym (none_put mid) in
     record {
       within = omega (arith, stops.within, length-append first more);
-      stops = subst (λ (f : NamedBytes). StopsAt f a d (option_map (put_files (take (length first) (first ++ more))) old) told) (sym same)
-          (subst (λ (o : Option Contents). StopsAt (get_or more 0 nameless) a d o told) (sym from)
-          (StopsAt-wider (get_or more 0 nameless) a b d d _ told kept (NeverFall-refl d) stops.stops));
+      stops = subst (λ (f : NamedBytes). StopsAt f a d (option_map (put_files (take (length first) (first ++ more))) old) new) (sym same)
+          (subst (λ (o : Option Contents). StopsAt (get_or more 0 nameless) a d o new) (sym from)
+          (StopsAt-wider (get_or more 0 nameless) a b d d _ new kept (NeverFall-refl d) stops.stops));
     }

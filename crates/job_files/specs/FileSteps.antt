@@ -53,22 +53,22 @@ abbrev pub written_at : ℕ → ℕ → Written
 written_at place outputs = if nat_lt place outputs then Output place else (if place == outputs then Report else Journal)
 
 -- a call on the file of this place was refused: those before it are whole
-pub record StopsAtPlace (files : List NamedBytes) (place : ℕ) (old : Option Contents) (was now : Place → ℕ) (told : Option Contents) : Type 0 where
+pub record StopsAtPlace (files : List NamedBytes) (place : ℕ) (old : Option Contents) (was now : Place → ℕ) (new : Option Contents) : Type 0 where
   pub within : place < length files
-  pub stops : StopsAt (slice_index_or files place nameless) was now (option_map (put_files (take place files)) old) told
+  pub stops : StopsAt (slice_index_or files place nameless) was now (option_map (put_files (take place files)) old) new
 
 -- a call on standard output was refused: all files are whole, and a first part of the text was given to it
-pub record StopsAtEnd (files : List NamedBytes) (text : List ℕ) (old : Option Contents) (was now : Place → ℕ) (told : Option Contents) : Type 0 where
+pub record StopsAtEnd (files : List NamedBytes) (text : List ℕ) (old : Option Contents) (was now : Place → ℕ) (new : Option Contents) : Type 0 where
   pub rose : Rose (was ToOut) (now ToOut)
   pub given : ℕ
-  pub told_is : told ≡ option_map (λ c. append_out (take given text) (put_files files c)) old
+  pub new_is : new ≡ option_map (λ c. append_out (take given text) (put_files files c)) old
 
 -- A call on one of the files was refused, of which so many are those of outputs and so many come before the packets file, or one on
 -- standard output.
 abbrev pub StopsPutting : ℕ → ℕ → List NamedBytes → List ℕ → Written → Option Contents → (Place → ℕ) → (Place → ℕ) → Option Contents → Type 0
-StopsPutting outputs before files text (Output port) old was now told = (port < outputs) × StopsAtPlace files port old was now told
-StopsPutting outputs before files text Report old was now told = StopsAtPlace files outputs old was now told
-StopsPutting outputs before files text Journal old was now told =
-    (place : ℕ) × (outputs < place) × (place < before) × StopsAtPlace files place old was now told
-StopsPutting outputs before files text Packets old was now told = StopsAtPlace files before old was now told
-StopsPutting outputs before files text StandardOutput old was now told = StopsAtEnd files text old was now told
+StopsPutting outputs before files text (Output port) old was now new = (port < outputs) × StopsAtPlace files port old was now new
+StopsPutting outputs before files text Report old was now new = StopsAtPlace files outputs old was now new
+StopsPutting outputs before files text Journal old was now new =
+    (place : ℕ) × (outputs < place) × (place < before) × StopsAtPlace files place old was now new
+StopsPutting outputs before files text Packets old was now new = StopsAtPlace files before old was now new
+StopsPutting outputs before files text StandardOutput old was now new = StopsAtEnd files text old was now new

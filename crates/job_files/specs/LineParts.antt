@@ -1,7 +1,7 @@
 -- The parts of a line on standard error, and what giving a line leaves.
 use Rattle.std.specs.Prelude.{◌≡◌, ◌⊎◌, ℕ, List, ◌++◌, Option, Result, Ok, Err, option_map, decimal}
-use Rattle.outside.specs.Contents.{Contents, append_err}
-use Rattle.outside.specs.Faults.{Rose}
+use Rattle.outside.specs.Contents.{Contents, NoneRead, append_err}
+use Rattle.outside.specs.Faults.{Place, ToErr, NeverFall, OnlyRose, Rose, of_err}
 use Rattle.pcap_records.specs.Texts.{hex_text}
 use Rattle.job_files.specs.declared.error_lines.Part.{Part}
 use Rattle.job_files.specs.declared.error_lines.Part.TheVariants.{Text, Number, Magic}
@@ -24,3 +24,10 @@ pub record GivesLine (text : List ℕ) (old new : Option Contents) (was now : �
   pub splits : text ≡ part ++ rest
   pub given : new ≡ option_map (append_err part) old
   pub whole : (part ≡ text) ⊎ Rose was now
+
+-- Standard error was given the line, or a first part of it, and all else is as before. No file was read, no count fell, and none rose but that of `err`.
+pub record PrintsLine {S : Type 0} (text : List ℕ) (seen : Contents → S → Option Contents) (faults : S → Place → ℕ) (old new : S) : Type 0 where
+  pub line : (c : Contents) → GivesLine text (seen c old) (seen c new) (faults old ToErr) (faults new ToErr)
+  pub own : NoneRead seen old new
+  pub no_others : OnlyRose of_err (faults old) (faults new)
+  pub never_fall : NeverFall (faults old) (faults new)

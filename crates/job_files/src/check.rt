@@ -1,7 +1,7 @@
-ghost use Rattle.std.specs.Prelude.{◌≡◌, ℕ, List, Bool, true, Ok};
+ghost use Rattle.std.specs.Prelude.{◌≡◌, Ok};
 ghost use Rattle.eslip_rounds.specs.Schedulers.{Scheduler};
 ghost use Rattle.named_schedulers.specs.Named.{decision_named};
-ghost use Rattle.outside.specs.Contents.{AreAlike, Contents, held};
+ghost use Rattle.outside.specs.Contents.{Contents, NoneRead, OnlyRead, held};
 ghost use Rattle.outside.specs.Faults.{NeverFall, NoneRose, OnlyRose};
 ghost use Rattle.journal_check.specs.declared.verdict.Verdict.TheVariants as verdict;
 ghost use Rattle.job_files.specs.declared.check_ending.CheckEnding.TheVariants.{Yes};
@@ -27,8 +27,7 @@ pub fn check_file<F: Files>(
 ) -> CheckEnding
     ensures meaning { (c : Contents) → MeansCheck (decision_named scheduler) name.now (held (F.seen c files.old) (F.seen c files.new)) (F.seen c files.new)
         (F.faults files.old) (F.faults files.new) result }
-    ensures own { (named : List ℕ → Bool) (c d : Contents) → named name.now ≡ true → AreAlike named (F.seen c files.old) (F.seen d files.old)
-        → AreAlike named (F.seen c files.new) (F.seen d files.new) }
+    ensures own { OnlyRead name.now F.seen files.old files.new }
     ensures no_fault { result ≡ Yes → NoneRose (F.faults files.old) (F.faults files.new) }
     ensures refused { OnlyRose (refused_by result) (F.faults files.old) (F.faults files.new) }
     ensures never_fall { NeverFall (F.faults files.old) (F.faults files.new) }
@@ -55,8 +54,7 @@ fn tell_yes<F: Files>(
 ) -> CheckEnding
     ensures meaning { (scheduler : Scheduler) (c : Contents) → IsAnswered scheduler name.now (F.seen c files.old) (Ok (verdict.Yes slots longest.now))
         → MeansCheck scheduler name.now (F.seen c files.old) (F.seen c files.new) (F.faults files.old) (F.faults files.new) result }
-    ensures own { (named : List ℕ → Bool) (c d : Contents) → AreAlike named (F.seen c files.old) (F.seen d files.old)
-        → AreAlike named (F.seen c files.new) (F.seen d files.new) }
+    ensures own { NoneRead F.seen files.old files.new }
     ensures no_fault { result ≡ Yes → NoneRose (F.faults files.old) (F.faults files.new) }
     ensures refused { OnlyRose (refused_by result) (F.faults files.old) (F.faults files.new) }
     ensures never_fall { NeverFall (F.faults files.old) (F.faults files.new) }

@@ -1,11 +1,11 @@
-ghost use Rattle.std.specs.Prelude.{◌≡◌, ℕ, List, Bool, [], ◌∷◌, ◌++◌, codes, decimal, map, OnErr, OnOk};
+ghost use Rattle.std.specs.Prelude.{◌≡◌, [], ◌∷◌, ◌++◌, codes, decimal, map, OnErr, OnOk};
 ghost use Rattle.std.specs.List.{concat};
-ghost use Rattle.outside.specs.Contents.{AreAlike, Contents};
+ghost use Rattle.outside.specs.Contents.{Contents, NoneRead};
 ghost use Rattle.outside.specs.Faults.{ToErr, NeverFall, NoneRose, OnlyRose, Rose, of_err};
 ghost use Rattle.pcap_records.specs.Texts.{hex_text};
 ghost use Rattle.switch_words.specs.Reading.{job_words};
 ghost use Rattle.job_files.specs.ErrorLines.{check_line, checked_line, line_of, name_read, name_written, named_line, reason_parts, usage_line};
-ghost use Rattle.job_files.specs.LineParts.{Gives, GivesLine, part_text};
+ghost use Rattle.job_files.specs.LineParts.{Gives, PrintsLine, part_text};
 ghost use Rattle.job_files.specs.RefusalLines.{capture_line, memory_line, refusal_line, table_line};
 ghost use Rattle.job_files.specs.Statuses.{check_status, status_of};
 
@@ -41,8 +41,7 @@ use Part::{Magic, Number, Text};
 // Gives all of the bytes to standard error, in as many calls as it takes.
 fn give_bytes<F: Files>(files: &mut F, bytes: &[u8]) -> Result<(), Failed>
     ensures seen { (c : Contents) → Gives result bytes.now (F.seen c files.old) (F.seen c files.new) }
-    ensures own { (named : List ℕ → Bool) (c d : Contents) → AreAlike named (F.seen c files.old) (F.seen d files.old)
-        → AreAlike named (F.seen c files.new) (F.seen d files.new) }
+    ensures own { NoneRead F.seen files.old files.new }
     ensures cause { OnErr result (Rose (F.faults files.old ToErr) (F.faults files.new ToErr)) }
     ensures no_fault { OnOk result (NoneRose (F.faults files.old) (F.faults files.new)) }
     ensures no_others { OnlyRose of_err (F.faults files.old) (F.faults files.new) }
@@ -66,8 +65,7 @@ fn hex_text(number: u32) -> [u8; 8]
 
 fn give_part<F: Files>(files: &mut F, part: &Part) -> Result<(), Failed>
     ensures seen { (c : Contents) → Gives result (part_text part.now) (F.seen c files.old) (F.seen c files.new) }
-    ensures own { (named : List ℕ → Bool) (c d : Contents) → AreAlike named (F.seen c files.old) (F.seen d files.old)
-        → AreAlike named (F.seen c files.new) (F.seen d files.new) }
+    ensures own { NoneRead F.seen files.old files.new }
     ensures cause { OnErr result (Rose (F.faults files.old ToErr) (F.faults files.new ToErr)) }
     ensures no_fault { OnOk result (NoneRose (F.faults files.old) (F.faults files.new)) }
     ensures no_others { OnlyRose of_err (F.faults files.old) (F.faults files.new) }
@@ -82,12 +80,7 @@ fn give_part<F: Files>(files: &mut F, part: &Part) -> Result<(), Failed>
 
 // Gives the parts to standard error, one after the other, up to a call that fails.
 fn give_parts<F: Files>(files: &mut F, parts: &[Part])
-    ensures line { (c : Contents) → GivesLine (concat (map part_text parts.now))
-        (F.seen c files.old) (F.seen c files.new) (F.faults files.old ToErr) (F.faults files.new ToErr) }
-    ensures own { (named : List ℕ → Bool) (c d : Contents) → AreAlike named (F.seen c files.old) (F.seen d files.old)
-        → AreAlike named (F.seen c files.new) (F.seen d files.new) }
-    ensures no_others { OnlyRose of_err (F.faults files.old) (F.faults files.new) }
-    ensures never_fall { NeverFall (F.faults files.old) (F.faults files.new) }
+    ensures { PrintsLine (concat (map part_text parts.now)) F.seen F.faults files.old files.new }
 {
     for part in parts {
         if give_part(files, part).is_err() {
@@ -98,12 +91,7 @@ fn give_parts<F: Files>(files: &mut F, parts: &[Part])
 
 // Prints the line for a text that is no table.
 fn print_table<F: Files>(files: &mut F, fault: TableFault)
-    ensures line { (c : Contents) → GivesLine (table_line fault) (F.seen c files.old) (F.seen c files.new)
-        (F.faults files.old ToErr) (F.faults files.new ToErr) }
-    ensures own { (named : List ℕ → Bool) (c d : Contents) → AreAlike named (F.seen c files.old) (F.seen d files.old)
-        → AreAlike named (F.seen c files.new) (F.seen d files.new) }
-    ensures no_others { OnlyRose of_err (F.faults files.old) (F.faults files.new) }
-    ensures never_fall { NeverFall (F.faults files.old) (F.faults files.new) }
+    ensures { PrintsLine (table_line fault) F.seen F.faults files.old files.new }
 {
     let (at, end) = (Text("table line "), Text("\n"));
     match fault {
@@ -137,12 +125,7 @@ fn print_table<F: Files>(files: &mut F, fault: TableFault)
 
 // Prints the line for the file of a port that is no capture.
 fn print_capture<F: Files>(files: &mut F, port: u32, fault: PcapFault)
-    ensures line { (c : Contents) → GivesLine (capture_line port fault) (F.seen c files.old) (F.seen c files.new)
-        (F.faults files.old ToErr) (F.faults files.new ToErr) }
-    ensures own { (named : List ℕ → Bool) (c d : Contents) → AreAlike named (F.seen c files.old) (F.seen d files.old)
-        → AreAlike named (F.seen c files.new) (F.seen d files.new) }
-    ensures no_others { OnlyRose of_err (F.faults files.old) (F.faults files.new) }
-    ensures never_fall { NeverFall (F.faults files.old) (F.faults files.new) }
+    ensures { PrintsLine (capture_line port fault) F.seen F.faults files.old files.new }
 {
     let (file, port, colon) = (Text("capture "), Number(u64::from(port)), Text(": "));
     let (bytes, end) = (Text(" bytes"), Text("\n"));
@@ -183,12 +166,7 @@ fn print_capture<F: Files>(files: &mut F, port: u32, fault: PcapFault)
 }
 
 fn print_refusal<F: Files>(files: &mut F, fault: PlanFault)
-    ensures line { (c : Contents) → GivesLine (refusal_line fault) (F.seen c files.old) (F.seen c files.new)
-        (F.faults files.old ToErr) (F.faults files.new ToErr) }
-    ensures own { (named : List ℕ → Bool) (c d : Contents) → AreAlike named (F.seen c files.old) (F.seen d files.old)
-        → AreAlike named (F.seen c files.new) (F.seen d files.new) }
-    ensures no_others { OnlyRose of_err (F.faults files.old) (F.faults files.new) }
-    ensures never_fall { NeverFall (F.faults files.old) (F.faults files.new) }
+    ensures { PrintsLine (refusal_line fault) F.seen F.faults files.old files.new }
 {
     match fault {
         PlanFault::Table(fault) => print_table(files, fault),
@@ -227,24 +205,14 @@ fn print_refusal<F: Files>(files: &mut F, fault: PlanFault)
 
 /// Gives standard error the usage line. Where a call fails, the rest of the line is left out.
 pub fn print_usage<F: Files>(files: &mut F)
-    ensures line { (c : Contents) → GivesLine usage_line (F.seen c files.old) (F.seen c files.new)
-        (F.faults files.old ToErr) (F.faults files.new ToErr) }
-    ensures own { (named : List ℕ → Bool) (c d : Contents) → AreAlike named (F.seen c files.old) (F.seen d files.old)
-        → AreAlike named (F.seen c files.new) (F.seen d files.new) }
-    ensures no_others { OnlyRose of_err (F.faults files.old) (F.faults files.new) }
-    ensures never_fall { NeverFall (F.faults files.old) (F.faults files.new) }
+    ensures { PrintsLine usage_line F.seen F.faults files.old files.new }
 {
     give_parts(files, &[Text(USAGE)]);
 }
 
 /// Gives standard error the line for want of memory. Where a call fails, the rest of the line is left out.
 pub fn print_memory<F: Files>(files: &mut F)
-    ensures line { (c : Contents) → GivesLine memory_line (F.seen c files.old) (F.seen c files.new)
-        (F.faults files.old ToErr) (F.faults files.new ToErr) }
-    ensures own { (named : List ℕ → Bool) (c d : Contents) → AreAlike named (F.seen c files.old) (F.seen d files.old)
-        → AreAlike named (F.seen c files.new) (F.seen d files.new) }
-    ensures no_others { OnlyRose of_err (F.faults files.old) (F.faults files.new) }
-    ensures never_fall { NeverFall (F.faults files.old) (F.faults files.new) }
+    ensures { PrintsLine memory_line F.seen F.faults files.old files.new }
 {
     give_parts(files, &[Text(MEMORY)]);
 }
@@ -262,12 +230,7 @@ fn name_read(job: &Job, input: InputFile) -> &str
 
 // Prints the line for what the job was writing; only a `run` job writes files.
 fn print_write_fault<F: Files>(files: &mut F, job: &Job, written: Written)
-    ensures line { (c : Contents) → GivesLine (named_line (codes "write fault: ") (name_written (job_words job.now) written))
-        (F.seen c files.old) (F.seen c files.new) (F.faults files.old ToErr) (F.faults files.new ToErr) }
-    ensures own { (named : List ℕ → Bool) (c d : Contents) → AreAlike named (F.seen c files.old) (F.seen d files.old)
-        → AreAlike named (F.seen c files.new) (F.seen d files.new) }
-    ensures no_others { OnlyRose of_err (F.faults files.old) (F.faults files.new) }
-    ensures never_fall { NeverFall (F.faults files.old) (F.faults files.new) }
+    ensures { PrintsLine (named_line (codes "write fault: ") (name_written (job_words job.now) written)) F.seen F.faults files.old files.new }
 {
     let (what, end) = (Text("write fault: "), Text("\n"));
     match (job, written) {
@@ -297,12 +260,7 @@ fn print_write_fault<F: Files>(files: &mut F, job: &Job, written: Written)
 
 // Prints the line for a journal that is not lawful.
 fn print_no<F: Files>(files: &mut F, slot: u32, reason: Reason)
-    ensures line { (c : Contents) → GivesLine (concat (codes "no: slot " ∷ decimal slot ∷ (reason_parts reason ++ codes "\n" ∷ [])))
-        (F.seen c files.old) (F.seen c files.new) (F.faults files.old ToErr) (F.faults files.new ToErr) }
-    ensures own { (named : List ℕ → Bool) (c d : Contents) → AreAlike named (F.seen c files.old) (F.seen d files.old)
-        → AreAlike named (F.seen c files.new) (F.seen d files.new) }
-    ensures no_others { OnlyRose of_err (F.faults files.old) (F.faults files.new) }
-    ensures never_fall { NeverFall (F.faults files.old) (F.faults files.new) }
+    ensures { PrintsLine (concat (codes "no: slot " ∷ decimal slot ∷ (reason_parts reason ++ codes "\n" ∷ []))) F.seen F.faults files.old files.new }
 {
     let (no, slot, end) = (Text("no: slot "), Number(u64::from(slot)), Text("\n"));
     match reason {
@@ -325,13 +283,8 @@ fn print_no<F: Files>(files: &mut F, slot: u32, reason: Reason)
 
 // Prints the line of the end of a check of this file. Yes has none.
 fn print_check<F: Files>(files: &mut F, file: &str, ending: CheckEnding)
-    ensures line { (c : Contents) → GivesLine (check_line file.now ending) (F.seen c files.old) (F.seen c files.new)
-        (F.faults files.old ToErr) (F.faults files.new ToErr) }
-    ensures own { (named : List ℕ → Bool) (c d : Contents) → AreAlike named (F.seen c files.old) (F.seen d files.old)
-        → AreAlike named (F.seen c files.new) (F.seen d files.new) }
+    ensures prints { PrintsLine (check_line file.now ending) F.seen F.faults files.old files.new }
     ensures no_fault { check_status ending ≡ 0 → NoneRose (F.faults files.old) (F.faults files.new) }
-    ensures no_others { OnlyRose of_err (F.faults files.old) (F.faults files.new) }
-    ensures never_fall { NeverFall (F.faults files.old) (F.faults files.new) }
 {
     let end = Text("\n");
     match ending {
@@ -355,13 +308,8 @@ fn print_check<F: Files>(files: &mut F, file: &str, ending: CheckEnding)
 
 // The same for a job that is a check; no other has such an end.
 fn print_checked<F: Files>(files: &mut F, job: &Job, ending: CheckEnding)
-    ensures line { (c : Contents) → GivesLine (checked_line (job_words job.now) ending)
-        (F.seen c files.old) (F.seen c files.new) (F.faults files.old ToErr) (F.faults files.new ToErr) }
-    ensures own { (named : List ℕ → Bool) (c d : Contents) → AreAlike named (F.seen c files.old) (F.seen d files.old)
-        → AreAlike named (F.seen c files.new) (F.seen d files.new) }
+    ensures prints { PrintsLine (checked_line (job_words job.now) ending) F.seen F.faults files.old files.new }
     ensures no_fault { check_status ending ≡ 0 → NoneRose (F.faults files.old) (F.faults files.new) }
-    ensures no_others { OnlyRose of_err (F.faults files.old) (F.faults files.new) }
-    ensures never_fall { NeverFall (F.faults files.old) (F.faults files.new) }
 {
     if let Job::Check(job) = job {
         print_check(files, job.file.as_str(), ending);
@@ -371,13 +319,8 @@ fn print_checked<F: Files>(files: &mut F, job: &Job, ending: CheckEnding)
 /// Gives standard error the line of an ending, none where the status is 0. Where a call fails, the rest of the line is
 /// left out.
 pub fn print_line<F: Files>(files: &mut F, job: &Job, ending: Ending)
-    ensures line { (c : Contents) → GivesLine (line_of (job_words job.now) ending)
-        (F.seen c files.old) (F.seen c files.new) (F.faults files.old ToErr) (F.faults files.new ToErr) }
-    ensures own { (named : List ℕ → Bool) (c d : Contents) → AreAlike named (F.seen c files.old) (F.seen d files.old)
-        → AreAlike named (F.seen c files.new) (F.seen d files.new) }
+    ensures prints { PrintsLine (line_of (job_words job.now) ending) F.seen F.faults files.old files.new }
     ensures no_fault { status_of ending ≡ 0 → NoneRose (F.faults files.old) (F.faults files.new) }
-    ensures no_others { OnlyRose of_err (F.faults files.old) (F.faults files.new) }
-    ensures never_fall { NeverFall (F.faults files.old) (F.faults files.new) }
 {
     match ending {
         Ending::Done => {}

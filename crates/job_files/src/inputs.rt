@@ -1,5 +1,5 @@
 ghost use Rattle.std.specs.Prelude.{◌≡◌, ◌≤◌, ◌<◌, ℕ, List, Bool, Some, true, length, vec_len, All, IfErr, IfOk, IfSome, OnOk};
-ghost use Rattle.outside.specs.Contents.{AreAlike, Contents, Stays};
+ghost use Rattle.outside.specs.Contents.{Contents, NoneChanged, OnlyRead, StayAlike};
 ghost use Rattle.outside.specs.Faults.{NeverFall, NoneRose, OnlyRose};
 ghost use Rattle.outside.specs.WholeFiles.{Fits};
 ghost use Rattle.switch_words.specs.Limits.{IsGenWithinLimits};
@@ -102,9 +102,8 @@ fn read_input<F: Files>(
     requires room { 0 < length buf.old }
     requires known { IsInput (reads_words reads.now) input }
     requires earlier { (c : Contents) → IfSome (F.seen c files.old) (EarlierFit (reads_words reads.now) input) }
-    ensures seen { (c : Contents) → Stays (F.seen c files.old) (F.seen c files.new) }
-    ensures own { (named : List ℕ → Bool) (c d : Contents) → named (input_name (reads_words reads.now) input) ≡ true
-        → AreAlike named (F.seen c files.old) (F.seen d files.old) → AreAlike named (F.seen c files.new) (F.seen d files.new) }
+    ensures seen { NoneChanged F.seen files.old files.new }
+    ensures own { OnlyRead (input_name (reads_words reads.now) input) F.seen files.old files.new }
     ensures no_fault { OnOk result (NoneRose (F.faults files.old) (F.faults files.new)) }
     ensures refused { IfErr result (λ ending. OnlyRose (refused_by ending) (F.faults files.old) (F.faults files.new)) }
     ensures never_fall { NeverFall (F.faults files.old) (F.faults files.new) }
@@ -131,10 +130,9 @@ fn read_captures<F: Files>(
 ) -> Result<Vec<Vec<u8>>, Ending>
     requires room { 0 < length buf.old }
     requires ports { length reads.now.inputs.now ≤ MAX_PORTS }
-    requires table { (c : Contents) → IfSome (F.seen c files.old) (λ d. Fits d (reads_words reads.now).table) }
-    ensures seen { (c : Contents) → Stays (F.seen c files.old) (F.seen c files.new) }
-    ensures own { (named : List ℕ → Bool) (c d : Contents) → All (λ name. named name ≡ true) (reads_words reads.now).inputs
-        → AreAlike named (F.seen c files.old) (F.seen d files.old) → AreAlike named (F.seen c files.new) (F.seen d files.new) }
+    requires table { (c : Contents) → IfSome (F.seen c files.old) (λ d. Fits MAX_FILE_BYTES d (reads_words reads.now).table) }
+    ensures seen { NoneChanged F.seen files.old files.new }
+    ensures own { (named : List ℕ → Bool) → All (λ name. named name ≡ true) (reads_words reads.now).inputs → StayAlike named F.seen files.old files.new }
     ensures no_fault { OnOk result (NoneRose (F.faults files.old) (F.faults files.new)) }
     ensures refused { IfErr result (λ ending. OnlyRose (refused_by ending) (F.faults files.old) (F.faults files.new)) }
     ensures never_fall { NeverFall (F.faults files.old) (F.faults files.new) }
@@ -157,9 +155,8 @@ pub fn read_inputs<F: Files>(
     files: &mut F,
 ) -> Result<Inputs, Ending>
     requires { length reads.now.inputs.now ≤ MAX_PORTS }
-    ensures seen { (c : Contents) → Stays (F.seen c files.old) (F.seen c files.new) }
-    ensures own { (named : List ℕ → Bool) (c d : Contents) → AreNamed named (reads_words reads.now)
-        → AreAlike named (F.seen c files.old) (F.seen d files.old) → AreAlike named (F.seen c files.new) (F.seen d files.new) }
+    ensures seen { NoneChanged F.seen files.old files.new }
+    ensures own { (named : List ℕ → Bool) → AreNamed named (reads_words reads.now) → StayAlike named F.seen files.old files.new }
     ensures no_fault { OnOk result (NoneRose (F.faults files.old) (F.faults files.new)) }
     ensures refused { IfErr result (λ ending. OnlyRose (refused_by ending) (F.faults files.old) (F.faults files.new)) }
     ensures never_fall { NeverFall (F.faults files.old) (F.faults files.new) }

@@ -1,6 +1,6 @@
-ghost use Rattle.std.specs.Prelude.{◌≡◌, ◌≢◌, ◌≤◌, ℕ, List, Bool, true, Some, length, IfErr, IfOk, IfSome, OnOk};
+ghost use Rattle.std.specs.Prelude.{◌≡◌, ◌≢◌, ◌≤◌, Some, length, IfErr, IfOk, IfSome, OnOk};
 ghost use Rattle.eslip_rounds.specs.Schedulers.{Scheduler};
-ghost use Rattle.outside.specs.Contents.{AreAlike, Contents, Stays};
+ghost use Rattle.outside.specs.Contents.{Contents, NoneChanged, OnlyRead};
 ghost use Rattle.outside.specs.Faults.{NeverFall, NoneRose, OnlyRose};
 ghost use Rattle.job_files.specs.declared.check_ending.CheckEnding.TheVariants.{Yes};
 ghost use Rattle.job_files.specs.Checks.{MeansCheck, refused_by};
@@ -16,9 +16,8 @@ pub(crate) fn read_journal<F: Files>(
     name: &str,
     files: &mut F,
 ) -> Result<Vec<u8>, CheckEnding>
-    ensures seen { (c : Contents) → Stays (F.seen c files.old) (F.seen c files.new) }
-    ensures own { (named : List ℕ → Bool) (c d : Contents) → named name.now ≡ true → AreAlike named (F.seen c files.old) (F.seen d files.old)
-        → AreAlike named (F.seen c files.new) (F.seen d files.new) }
+    ensures seen { NoneChanged F.seen files.old files.new }
+    ensures own { OnlyRead name.now F.seen files.old files.new }
     ensures no_fault { OnOk result (NoneRose (F.faults files.old) (F.faults files.new)) }
     ensures refused { IfErr result (λ ending. OnlyRose (refused_by ending) (F.faults files.old) (F.faults files.new)) }
     ensures never_fall { NeverFall (F.faults files.old) (F.faults files.new) }

@@ -1,6 +1,6 @@
-ghost use Rattle.std.specs.Prelude.{◌≡◌, ◌≤◌, ◌<◌, ◌+◌, ℕ, List, Bool, length, map, slice_index_or, string_bytes, take, IfErr, IfOk, OnErr, OnOk};
+ghost use Rattle.std.specs.Prelude.{◌≡◌, ◌≤◌, ◌<◌, ◌+◌, length, map, slice_index_or, string_bytes, take, IfErr, IfOk, OnErr, OnOk};
 ghost use Rattle.std.specs.Option.{option_map};
-ghost use Rattle.outside.specs.Contents.{AreAlike, Contents, append_out};
+ghost use Rattle.outside.specs.Contents.{Contents, NoneRead, append_out};
 ghost use Rattle.outside.specs.Faults.{NeverFall, NoneRose, OnlyRose, of_writes};
 ghost use Rattle.outside.specs.WholeFiles.{Puts, StopsAt};
 ghost use Rattle.switch_plan.specs.ReadingSteps.{bytes_of_files};
@@ -106,8 +106,7 @@ pub fn run_files(
 // Begins the file and gives it all its bytes.
 fn put_file<F: Files>(files: &mut F, file: &OutputFile) -> Result<(), Failed>
     ensures seen { (c : Contents) → Puts result (shown file.now) (F.faults files.old) (F.faults files.new) (F.seen c files.old) (F.seen c files.new) }
-    ensures own { (named : List ℕ → Bool) (c d : Contents) → AreAlike named (F.seen c files.old) (F.seen d files.old)
-        → AreAlike named (F.seen c files.new) (F.seen d files.new) }
+    ensures own { NoneRead F.seen files.old files.new }
     ensures no_fault { OnOk result (NoneRose (F.faults files.old) (F.faults files.new)) }
     ensures no_others { OnlyRose of_writes (F.faults files.old) (F.faults files.new) }
     ensures never_fall { NeverFall (F.faults files.old) (F.faults files.new) }
@@ -122,8 +121,7 @@ fn put_all<F: Files>(files: &mut F, output_files: &[OutputFile]) -> Result<(), u
     ensures place { IfErr result (λ place. place < length output_files.now) }
     ensures err { (c : Contents) → IfErr result (λ place. StopsAt (slice_index_or (map shown output_files.now) place nameless) (F.faults files.old)
         (F.faults files.new) (option_map (put_files (take place (map shown output_files.now))) (F.seen c files.old)) (F.seen c files.new)) }
-    ensures own { (named : List ℕ → Bool) (c d : Contents) → AreAlike named (F.seen c files.old) (F.seen d files.old)
-        → AreAlike named (F.seen c files.new) (F.seen d files.new) }
+    ensures own { NoneRead F.seen files.old files.new }
     ensures no_fault { OnOk result (NoneRose (F.faults files.old) (F.faults files.new)) }
     ensures no_others { OnlyRose of_writes (F.faults files.old) (F.faults files.new) }
     ensures never_fall { NeverFall (F.faults files.old) (F.faults files.new) }
@@ -144,8 +142,7 @@ fn put_packets<F: Files, P: Pieces>(
     ensures ok { (c : Contents) → OnOk result (F.seen c files.new ≡ option_map (put_files (pieced P.left packets.old)) (F.seen c files.old)) }
     ensures err { (c : Contents) → OnErr result (StopsAtPlace (pieced P.left packets.old) 0 (F.seen c files.old) (F.faults files.old) (F.faults files.new)
         (F.seen c files.new)) }
-    ensures own { (named : List ℕ → Bool) (c d : Contents) → AreAlike named (F.seen c files.old) (F.seen d files.old)
-        → AreAlike named (F.seen c files.new) (F.seen d files.new) }
+    ensures own { NoneRead F.seen files.old files.new }
     ensures no_fault { OnOk result (NoneRose (F.faults files.old) (F.faults files.new)) }
     ensures no_others { OnlyRose of_writes (F.faults files.old) (F.faults files.new) }
     ensures never_fall { NeverFall (F.faults files.old) (F.faults files.new) }
@@ -181,8 +178,7 @@ pub fn put_texts<F: Files, P: Pieces>(files: &mut F, texts: &mut JobTexts<P>) ->
         ≡ option_map (λ d. append_out (string_bytes texts.old.summary) (put_files (all_shown P.left texts.old) d)) (F.seen c files.old)) }
     ensures err { (c : Contents) → IfErr result (λ written. StopsPutting texts.old.outputs (length texts.old.files.items) (all_shown P.left texts.old)
         (string_bytes texts.old.summary) written (F.seen c files.old) (F.faults files.old) (F.faults files.new) (F.seen c files.new)) }
-    ensures own { (named : List ℕ → Bool) (c d : Contents) → AreAlike named (F.seen c files.old) (F.seen d files.old)
-        → AreAlike named (F.seen c files.new) (F.seen d files.new) }
+    ensures own { NoneRead F.seen files.old files.new }
     ensures no_fault { OnOk result (NoneRose (F.faults files.old) (F.faults files.new)) }
     ensures no_others { OnlyRose of_writes (F.faults files.old) (F.faults files.new) }
     ensures never_fall { NeverFall (F.faults files.old) (F.faults files.new) }

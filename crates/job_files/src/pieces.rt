@@ -1,5 +1,5 @@
-ghost use Rattle.std.specs.Prelude.{◌≡◌, ◌≤◌, ◌↔◌, ◌++◌, ℕ, List, Bool, [], true, length, take, IfSome, OnOk};
-ghost use Rattle.outside.specs.Contents.{AreAlike, Contents};
+ghost use Rattle.std.specs.Prelude.{◌≡◌, ◌≤◌, ◌↔◌, ◌++◌, ℕ, List, [], true, length, take, IfSome, OnOk};
+ghost use Rattle.outside.specs.Contents.{Contents, NoneRead};
 ghost use Rattle.outside.specs.Faults.{NeverFall, NoneRose, OnlyRose, of_writes};
 ghost use Rattle.outside.specs.WholeFiles.{Appends, Puts};
 
@@ -41,8 +41,7 @@ fn append_pieces<F: Files, P: Pieces>(
     requires begun { (c : Contents) → IfSome (F.seen c files.old) (λ d. d.begun name.now ≡ true) }
     ensures seen { (c : Contents) → Appends result (record { name = name.now; bytes = P.left pieces.old }) (F.faults files.old) (F.faults files.new)
         (F.seen c files.old) (F.seen c files.new) }
-    ensures own { (named : List ℕ → Bool) (c d : Contents) → AreAlike named (F.seen c files.old) (F.seen d files.old)
-        → AreAlike named (F.seen c files.new) (F.seen d files.new) }
+    ensures own { NoneRead F.seen files.old files.new }
     ensures no_fault { OnOk result (NoneRose (F.faults files.old) (F.faults files.new)) }
     ensures no_others { OnlyRose of_writes (F.faults files.old) (F.faults files.new) }
     ensures never_fall { NeverFall (F.faults files.old) (F.faults files.new) }
@@ -70,8 +69,7 @@ pub(crate) fn put_pieces<F: Files, P: Pieces>(
     requires { 256 ≤ length buf.old }
     ensures seen { (c : Contents) → Puts result (record { name = name.now; bytes = P.left pieces.old }) (F.faults files.old) (F.faults files.new)
         (F.seen c files.old) (F.seen c files.new) }
-    ensures own { (named : List ℕ → Bool) (c d : Contents) → AreAlike named (F.seen c files.old) (F.seen d files.old)
-        → AreAlike named (F.seen c files.new) (F.seen d files.new) }
+    ensures own { NoneRead F.seen files.old files.new }
     ensures no_fault { OnOk result (NoneRose (F.faults files.old) (F.faults files.new)) }
     ensures no_others { OnlyRose of_writes (F.faults files.old) (F.faults files.new) }
     ensures never_fall { NeverFall (F.faults files.old) (F.faults files.new) }

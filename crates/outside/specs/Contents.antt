@@ -74,6 +74,22 @@ AreAlike named None None = Unit {0}
 AreAlike named (Some c) (Some d) = (name : List ℕ) → named name ≡ true → c.file name ≡ d.file name
 AreAlike named _ _ = ⊥
 
+-- nothing changed: whatever the contents at the first, what was seen stays, or is seen no more
+abbrev pub NoneChanged : {S : Type 0} → (Contents → S → Option Contents) → S → S → Type 0
+NoneChanged seen old new = (c : Contents) → Stays (seen c old) (seen c new)
+
+-- any two contents of which the same was seen in the files that are named so are such still
+abbrev pub StayAlike : {S : Type 0} → (List ℕ → Bool) → (Contents → S → Option Contents) → S → S → Type 0
+StayAlike named seen old new = (c d : Contents) → AreAlike named (seen c old) (seen d old) → AreAlike named (seen c new) (seen d new)
+
+-- no file was read but the one of this name
+abbrev pub OnlyRead : {S : Type 0} → List ℕ → (Contents → S → Option Contents) → S → S → Type 0
+OnlyRead name seen old new = (named : List ℕ → Bool) → named name ≡ true → StayAlike named seen old new
+
+-- no file was read
+abbrev pub NoneRead : {S : Type 0} → (Contents → S → Option Contents) → S → S → Type 0
+NoneRead seen old new = (named : List ℕ → Bool) → StayAlike named seen old new
+
 -- what was seen before, where it is seen still
 abbrev pub held : Option Contents → Option Contents → Option Contents
 held before None = None

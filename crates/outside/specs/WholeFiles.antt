@@ -1,14 +1,13 @@
 -- Whole files, read and written in as many calls as it takes, and whole texts given to standard output.
 use Rattle.std.specs.Prelude.{◌≡◌, ◌<◌, ◌≤◌, ℕ, Bool, List, take, length, Option, Some, Result, Ok, Err, option_map}
-use Rattle.rotating_pick.specs.declared.limits.TheConstants.{MAX_FILE_BYTES}
 use Rattle.outside.specs.Contents.{Contents, begin_file, append_file, append_out}
 use Rattle.outside.specs.Faults.{Place, BeginOf, WriteOf, Rose, of_none, of_reads}
 use Rattle.outside.specs.declared.whole_file.ReadFailure.{ReadFailure}
 use Rattle.outside.specs.declared.whole_file.ReadFailure.TheVariants as failure
 
--- the file is there, and not too long
-abbrev pub Fits : Contents → List ℕ → Type 0
-Fits c name = (bytes : List ℕ) × (c.file name ≡ Some bytes) × (length bytes ≤ MAX_FILE_BYTES)
+-- the file is there, and has at most so many bytes
+abbrev pub Fits : ℕ → Contents → List ℕ → Type 0
+Fits limit c name = (bytes : List ℕ) × (c.file name ≡ Some bytes) × (length bytes ≤ limit)
 
 -- the file is there, and has more bytes than these
 abbrev pub IsLongerThan : ℕ → Contents → List ℕ → Type 0

@@ -1,5 +1,5 @@
-ghost use Rattle.std.specs.Prelude.{◌≡◌, ◌≤◌, ◌<◌, ℕ, List, Bool, Option, true, length, IfOk, IfSome, OnErr, OnOk};
-ghost use Rattle.outside.specs.Contents.{AreAlike, Contents, GivesPiece, Stays, after_begin, after_err, after_out, after_write};
+ghost use Rattle.std.specs.Prelude.{◌≡◌, ◌≤◌, ◌<◌, ℕ, Option, true, length, IfOk, IfSome, OnErr, OnOk};
+ghost use Rattle.outside.specs.Contents.{Contents, GivesPiece, NoneChanged, OnlyRead, after_begin, after_err, after_out, after_write};
 ghost use Rattle.outside.specs.Faults.{Place, ReadOf, BeginOf, WriteOf, ToOut, ToErr, NeverFall, NoneRose, OnlyRose, Rose, of_err, of_reads, of_writes};
 
 use std::error::Error;
@@ -43,10 +43,9 @@ pub trait Files {
     /// `buf` is not empty, 0 comes exactly where `at` is at or past the end. A name that is not
     /// there is a fault.
     fn read(&mut self, name: &str, at: u64, buf: &mut [u8]) -> Result<usize, Failed>
-        ensures seen { (c : Contents) → Stays (seen c self.old) (seen c self.new) }
+        ensures seen { NoneChanged seen self.old self.new }
         ensures piece { (c : Contents) → IfOk result (λ k. IfSome (seen c self.new) (λ d. GivesPiece (d.file name.now) at (length buf.old) buf.new k)) }
-        ensures own { (named : List ℕ → Bool) (c d : Contents) → named name.now ≡ true → AreAlike named (seen c self.old) (seen d self.old)
-            → AreAlike named (seen c self.new) (seen d self.new) }
+        ensures own { OnlyRead name.now seen self.old self.new }
         ensures room { IfOk result (λ k. k ≤ length buf.old) }
         ensures cause { OnErr result (Rose (faults self.old (ReadOf name.now)) (faults self.new (ReadOf name.now))) }
         ensures no_fault { OnOk result (NoneRose (faults self.old) (faults self.new)) }

@@ -1,8 +1,8 @@
-ghost use Rattle.std.specs.Prelude.{◌≡◌, ◌≢◌, ◌≤◌, ◌<◌, ◌↔◌, ◌⊎◌, ◌+◌, ℕ, List, Bool, ◌++◌, true, Some, vec_capacity, length, take, drop, min, string_bytes};
-ghost use Rattle.std.specs.Prelude.{AllPairs, IfOk, IsErr, IsNone, IsTrue, OnErr, OnOk};
+ghost use Rattle.std.specs.Prelude.{◌≡◌, ◌≢◌, ◌≤◌, ◌<◌, ◌↔◌, ◌⊎◌, ◌+◌, ◌++◌, true, Some, vec_capacity, length, take, drop, min, string_bytes};
+ghost use Rattle.std.specs.Prelude.{AllPairs, IfOk, IsErr, IsNone, OnErr, OnOk};
 ghost use Rattle.std.specs.Option.{option_copied};
 ghost use Rattle.outside.specs.Calls.{no_calls, one_more};
-ghost use Rattle.outside.specs.Contents.{AreAlike, Contents, GivesPiece, after_begin, after_err, after_out, after_write};
+ghost use Rattle.outside.specs.Contents.{Contents, GivesPiece, OnlyRead, after_begin, after_err, after_out, after_write};
 ghost use Rattle.outside.specs.Faults.{Place, ReadOf, BeginOf, WriteOf, ToOut, ToErr, NeverFall, NoneRose, OnlyRose, Rose, of_err, of_reads, of_writes};
 ghost use Rattle.outside.specs.MemoryFiles.{contents_of, contents_given, faults_of, faults_after, piece_length, HasNoRoom, IsToFail, MakesCall};
 
@@ -167,9 +167,7 @@ impl Files for MemFiles {
     fn read(&mut self, name: &str, at: u64, buf: &mut [u8]) -> Result<usize, Failed>
         ensures seen { (c : Contents) → Some (contents_of self.new) ≡ Some (contents_of self.old) }
         ensures piece { (c : Contents) → IfOk result (λ k. GivesPiece ((contents_of self.new).file name.now) at (length buf.old) buf.new k) }
-        ensures own { (named : List ℕ → Bool) (c d : Contents) → named name.now ≡ true
-            → AreAlike named (Some (contents_of self.old)) (Some (contents_of self.old))
-            → AreAlike named (Some (contents_of self.new)) (Some (contents_of self.new)) }
+        ensures own { OnlyRead name.now (λ c m. Some (contents_of m)) self.old self.new }
         ensures room { IfOk result (λ k. k ≤ length buf.old) }
         ensures cause { OnErr result (Rose (faults_of self.old (ReadOf name.now)) (faults_of self.new (ReadOf name.now))) }
         ensures no_fault { OnOk result (NoneRose (faults_of self.old) (faults_of self.new)) }

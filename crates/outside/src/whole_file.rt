@@ -1,5 +1,5 @@
-ghost use Rattle.std.specs.Prelude.{◌≡◌, ◌≤◌, ◌<◌, ℕ, List, Bool, [], Some, true, length, All, IfErr, IfOk, OnOk, OnErr, IfSome, IsErrOf};
-ghost use Rattle.outside.specs.Contents.{AreAlike, Contents, Stays};
+ghost use Rattle.std.specs.Prelude.{◌≡◌, ◌≤◌, ◌<◌, [], Some, true, length, All, IfErr, IfOk, OnOk, OnErr, IfSome, IsErrOf};
+ghost use Rattle.outside.specs.Contents.{Contents, NoneChanged, NoneRead, OnlyRead};
 ghost use Rattle.outside.specs.Faults.{ReadOf, ToOut, NeverFall, NoneRose, OnlyRose, Rose, of_writes};
 ghost use Rattle.outside.specs.WholeFiles.{Appends, GivesOut, IsLongerThan, Puts, refused_by};
 
@@ -57,9 +57,8 @@ fn read_into<F: Files>(
 ) -> Result<(), ReadFailure>
     requires room { 0 < length buf.old }
     requires empty { bytes.old.items ≡ [] }
-    ensures seen { (c : Contents) → Stays (F.seen c files.old) (F.seen c files.new) }
-    ensures own { (named : List ℕ → Bool) (c d : Contents) → named name.now ≡ true → AreAlike named (F.seen c files.old) (F.seen d files.old)
-        → AreAlike named (F.seen c files.new) (F.seen d files.new) }
+    ensures seen { NoneChanged F.seen files.old files.new }
+    ensures own { OnlyRead name.now F.seen files.old files.new }
     ensures no_fault { OnOk result (NoneRose (F.faults files.old) (F.faults files.new)) }
     ensures refused { IfErr result (λ failure. OnlyRose (refused_by failure) (F.faults files.old) (F.faults files.new)) }
     ensures never_fall { NeverFall (F.faults files.old) (F.faults files.new) }
@@ -92,9 +91,8 @@ pub fn read_whole<F: Files>(
     buf: &mut [u8],
 ) -> Result<Vec<u8>, ReadFailure>
     requires { 0 < length buf.old }
-    ensures seen { (c : Contents) → Stays (F.seen c files.old) (F.seen c files.new) }
-    ensures own { (named : List ℕ → Bool) (c d : Contents) → named name.now ≡ true → AreAlike named (F.seen c files.old) (F.seen d files.old)
-        → AreAlike named (F.seen c files.new) (F.seen d files.new) }
+    ensures seen { NoneChanged F.seen files.old files.new }
+    ensures own { OnlyRead name.now F.seen files.old files.new }
     ensures no_fault { OnOk result (NoneRose (F.faults files.old) (F.faults files.new)) }
     ensures refused { IfErr result (λ failure. OnlyRose (refused_by failure) (F.faults files.old) (F.faults files.new)) }
     ensures never_fall { NeverFall (F.faults files.old) (F.faults files.new) }
@@ -113,8 +111,7 @@ fn append_all<F: Files>(files: &mut F, name: &str, bytes: &[u8]) -> Result<(), F
     requires begun { (c : Contents) → IfSome (F.seen c files.old) (λ d. d.begun name.now ≡ true) }
     ensures seen { (c : Contents) → Appends result (record { name = name.now; bytes = bytes.now }) (F.faults files.old) (F.faults files.new)
         (F.seen c files.old) (F.seen c files.new) }
-    ensures own { (named : List ℕ → Bool) (c d : Contents) → AreAlike named (F.seen c files.old) (F.seen d files.old)
-        → AreAlike named (F.seen c files.new) (F.seen d files.new) }
+    ensures own { NoneRead F.seen files.old files.new }
     ensures no_fault { OnOk result (NoneRose (F.faults files.old) (F.faults files.new)) }
     ensures no_others { OnlyRose of_writes (F.faults files.old) (F.faults files.new) }
     ensures never_fall { NeverFall (F.faults files.old) (F.faults files.new) }
@@ -131,8 +128,7 @@ fn append_all<F: Files>(files: &mut F, name: &str, bytes: &[u8]) -> Result<(), F
 pub fn put_whole<F: Files>(files: &mut F, name: &str, bytes: &[u8]) -> Result<(), Failed>
     ensures seen { (c : Contents) → Puts result (record { name = name.now; bytes = bytes.now }) (F.faults files.old) (F.faults files.new)
         (F.seen c files.old) (F.seen c files.new) }
-    ensures own { (named : List ℕ → Bool) (c d : Contents) → AreAlike named (F.seen c files.old) (F.seen d files.old)
-        → AreAlike named (F.seen c files.new) (F.seen d files.new) }
+    ensures own { NoneRead F.seen files.old files.new }
     ensures no_fault { OnOk result (NoneRose (F.faults files.old) (F.faults files.new)) }
     ensures no_others { OnlyRose of_writes (F.faults files.old) (F.faults files.new) }
     ensures never_fall { NeverFall (F.faults files.old) (F.faults files.new) }
@@ -145,8 +141,7 @@ pub fn put_whole<F: Files>(files: &mut F, name: &str, bytes: &[u8]) -> Result<()
 /// output was given a first part of them.
 pub fn put_out<F: Files>(files: &mut F, bytes: &[u8]) -> Result<(), Failed>
     ensures seen { (c : Contents) → GivesOut result bytes.now (F.seen c files.old) (F.seen c files.new) }
-    ensures own { (named : List ℕ → Bool) (c d : Contents) → AreAlike named (F.seen c files.old) (F.seen d files.old)
-        → AreAlike named (F.seen c files.new) (F.seen d files.new) }
+    ensures own { NoneRead F.seen files.old files.new }
     ensures cause { OnErr result (Rose (F.faults files.old ToOut) (F.faults files.new ToOut)) }
     ensures no_fault { OnOk result (NoneRose (F.faults files.old) (F.faults files.new)) }
     ensures no_others { OnlyRose of_writes (F.faults files.old) (F.faults files.new) }

@@ -6,7 +6,7 @@ use Rattle.std.proofs.lemmas.List.{get_or-map, get_or-take, length-take-le}
 use Rattle.std.proofs.lemmas.List.Elements.{All-get_or}
 use Rattle.std.proofs.lemmas.Option.{same_Some, none-some}
 use Rattle.outside.specs.Contents.{Contents}
-use Rattle.outside.specs.WholeFiles.{IsLongerThan}
+use Rattle.outside.specs.WholeFiles.{Fits, IsLongerThan}
 use Rattle.switch_words.specs.declared.job.Settings.{Settings}
 use Rattle.switch_words.specs.Reading.{JobWords, run, gen, check, firm, CheckWords}
 use Rattle.switch_plan.specs.GoodPlans.{SwitchPlan, IsGood}
@@ -15,7 +15,7 @@ use Rattle.named_schedulers.specs.Named.{decision_named}
 use Rattle.switch_run.specs.Causes.{Answers, IsReadable, IsRunFor, TooLongIsExact, UsageIsExact, scheduler_in}
 use Rattle.switch_run.specs.Endings.{Command, IsFirstTooLong, IsMade, IsStopped, Stops}
 use Rattle.job_files.specs.Statuses.{check_status, status_of}
-use Rattle.job_files.specs.Inputs.{AreFilesRead, AreInputs, CaptureFits, CapturesRead, EarlierFit, IsTooLongFor}
+use Rattle.job_files.specs.Inputs.{AreFilesRead, AreInputs, CapturesRead, EarlierFit, IsTooLongFor}
 use Rattle.job_files.specs.Jobs.{ReadWords, reads_of, IsInput, capture_bytes, input_name, most_bytes}
 use Rattle.job_files.specs.OutputFiles.{Texts}
 use Rattle.switch_run.specs.Switched.{AreTexts, IsPlanned}
@@ -29,15 +29,11 @@ use Rattle.job_files.specs.declared.inputs.InputFile.TheVariants.{Table, Capture
 
 -- Files that are there, and not too long
 
--- the file is there, and has no more bytes than these
-abbrev HasUpTo : ℕ → Contents → List ℕ → Type 0
-HasUpTo limit c name = (bytes : List ℕ) × (c.file name ≡ Some bytes) × (length bytes ≤ limit)
-
-not_both_long : (limit : ℕ) (c : Contents) (name : List ℕ) → HasUpTo limit c name → IsLongerThan limit c name → ⊥
+not_both_long : (limit : ℕ) (c : Contents) (name : List ℕ) → Fits limit c name → IsLongerThan limit c name → ⊥
 not_both_long limit c name fits long = let same : fits.0 ≡ long.0 = cc in let n = ap length same in omega (arith, n, fits.2, long.2)
 
 capture_there : (long : Bool) (names : List (List ℕ)) (c : Contents) (captures : List (List ℕ)) (port : ℕ)
-    → CapturesRead long names (Some c) captures → port < length names → CaptureFits long c (get_or names port [])
+    → CapturesRead long names (Some c) captures → port < length names → Fits (capture_bytes long) c (get_or names port [])
 capture_there long names c captures port read within =
     let inside : port < length captures = omega (arith, read.count) in (
       get_or captures port [],
@@ -48,7 +44,7 @@ capture_there long names c captures port read within =
 
 -- what was read is not too long
 read_fits : (r : ReadWords) (c : Contents) (table : List ℕ) (captures : List (List ℕ)) (input : InputFile) → AreFilesRead r (Some c) table captures
-    → IsInput r input → HasUpTo (most_bytes r input) c (input_name r input)
+    → IsInput r input → Fits (most_bytes r input) c (input_name r input)
 read_fits r c table captures Table read known = (table, read.table_there, read.table_fits)
 read_fits r c table captures (Capture port) read known = capture_there r.long r.inputs c captures port read.captures_read known
 
@@ -61,8 +57,8 @@ earlier_capture : (r : ReadWords) (c : Contents) (p q : ℕ) → p < q → q < l
 earlier_capture r c p q less within earlier long =
     let short : p < length (take q r.inputs) = omega (arith, length-take-le q r.inputs (omega arith)) in
     not_both_long (capture_bytes r.long) c (get_or r.inputs p [])
-    (subst (λ (name : List ℕ). CaptureFits r.long c name) (get_or-take q r.inputs p [] less)
-    (All-get_or (CaptureFits r.long c) (take q r.inputs) p [] short earlier.1)) long
+    (subst (λ (name : List ℕ). Fits (capture_bytes r.long) c name) (get_or-take q r.inputs p [] less)
+    (All-get_or (Fits (capture_bytes r.long) c) (take q r.inputs) p [] short earlier.1)) long
 
 -- two files that are each the first that is too long are one
 first_long : (r : ReadWords) (c : Contents) (a b : InputFile) → IsInput r a → IsInput r b → EarlierFit r a c → EarlierFit r b c → IsTooLongFor r a c
@@ -98,7 +94,7 @@ same_inputs (gen g) c t u xs ys a b = (a.0 ∙ sym b.0, a.1 ∙ sym b.1)
 same_inputs (check w) c t u xs ys a b = absurd a
 same_inputs (firm f) c t u xs ys a b = same_read _ c t u xs ys a b
 
--- The words mean one job, and the contents told are one
+-- The words mean one job, and the contents seen are one
 
 pub same_job : (c : Command) (job other : JobWords) → c.job ≡ Some job → c.job ≡ Some other → other ≡ job
 same_job c job other a b = cc
@@ -110,17 +106,17 @@ pub no_job : (c : Command) (job : JobWords) → c.job ≡ Some job → c.job ≡
 no_job c job a b = absurd (cc)
 
 -- the inputs of a job that reads files are what these hold
-files_read : (job : JobWords) (r : ReadWords) (told : Option Contents) (table : List ℕ) (captures : List (List ℕ)) → reads_of job ≡ Some r
-    → AreInputs job told table captures → AreFilesRead r told table captures
-files_read (run w) r told table captures reads inputs = subst (λ (s : ReadWords). AreFilesRead s told table captures) (same_Some _ r reads) inputs
-files_read (gen g) r told table captures reads inputs = absurd (none-some r reads)
-files_read (check w) r told table captures reads inputs = absurd inputs
-files_read (firm f) r told table captures reads inputs = subst (λ (s : ReadWords). AreFilesRead s told table captures) (same_Some _ r reads) inputs
+files_read : (job : JobWords) (r : ReadWords) (seen : Option Contents) (table : List ℕ) (captures : List (List ℕ)) → reads_of job ≡ Some r
+    → AreInputs job seen table captures → AreFilesRead r seen table captures
+files_read (run w) r seen table captures reads inputs = subst (λ (s : ReadWords). AreFilesRead s seen table captures) (same_Some _ r reads) inputs
+files_read (gen g) r seen table captures reads inputs = absurd (none-some r reads)
+files_read (check w) r seen table captures reads inputs = absurd inputs
+files_read (firm f) r seen table captures reads inputs = subst (λ (s : ReadWords). AreFilesRead s seen table captures) (same_Some _ r reads) inputs
 
 -- a check has no inputs, and reads no table and no captures
-pub no_inputs : (job : JobWords) (words : CheckWords) (told : Option Contents) (table : List ℕ) (captures : List (List ℕ)) → job ≡ check words
-    → AreInputs job told table captures → ⊥
-no_inputs job words told table captures is inputs = subst (λ (j : JobWords). AreInputs j told table captures) is inputs
+pub no_inputs : (job : JobWords) (words : CheckWords) (seen : Option Contents) (table : List ℕ) (captures : List (List ℕ)) → job ≡ check words
+    → AreInputs job seen table captures → ⊥
+no_inputs job words seen table captures is inputs = subst (λ (j : JobWords). AreInputs j seen table captures) is inputs
 
 pub no_reads : (job : JobWords) (words : CheckWords) (r : ReadWords) → job ≡ check words → reads_of job ≡ Some r → ⊥
 no_reads job words r is reads = none-some r (subst (λ (j : JobWords). reads_of j ≡ Some r) is reads)
@@ -159,7 +155,7 @@ usage_exact c status ending a unnamed =
     let words = usage_words c status ending a in
     record { only = words.0; every = words.1; unnamed = λ none. a.0 ∙ ap status_of (unnamed none) }
 
--- In the following the job and the contents are those of the command, told once
+-- In the following the job and the contents are those of the command, seen once
 
 -- the inputs that texts were made of
 pub record AreMadeOf (job : JobWords) (contents : Contents) (texts : Texts) : Type 0 where
@@ -171,18 +167,18 @@ pub record AreMadeOf (job : JobWords) (contents : Contents) (texts : Texts) : Ty
 pub made_of : (c : Command) (job other : JobWords) (contents : Contents) (texts : Texts) → IsReadable c job contents → c.job ≡ Some other
     → IsMade other c.old texts → AreMadeOf job contents texts
 made_of c job other contents texts read words made =
-    let here = subst (λ (o : Option Contents). IsMade job o texts) read.told
+    let here = subst (λ (o : Option Contents). IsMade job o texts) read.seen
     (subst (λ (n : JobWords). IsMade n c.old texts) (same_job c job other read.words words) made) in
     record { table = here.table; captures = here.captures; inputs = here.inputs; outcome = here.outcome }
 
 pub stops_here : (c : Command) (job : JobWords) (contents : Contents) (ending : Ending) → c.job ≡ Some job → c.old ≡ Some contents → (s : IsStopped c ending)
-    → Stops job (Some contents) c.was c.now s.told ending
-stops_here c job contents ending words told s =
-    subst (λ (o : Option Contents). Stops job o c.was c.now s.told ending) told
-    (subst (λ (n : JobWords). Stops n c.old c.was c.now s.told ending) (same_job c job s.job words s.words) s.stops)
+    → Stops job (Some contents) c.was c.now s.seen ending
+stops_here c job contents ending words seen s =
+    subst (λ (o : Option Contents). Stops job o c.was c.now s.seen ending) seen
+    (subst (λ (n : JobWords). Stops n c.old c.was c.now s.seen ending) (same_job c job s.job words s.words) s.stops)
 
 pub no_read_fault : (c : Command) (job : JobWords) (contents : Contents) (input : InputFile) → IsReadable c job contents → IsStopped c (ReadFault input) → ⊥
-no_read_fault c job contents input read s = let stops = stops_here c job contents (ReadFault input) read.words read.told s in
+no_read_fault c job contents input read s = let stops = stops_here c job contents (ReadFault input) read.words read.seen s in
     read.reads stops.0.words input stops.0.reads stops.0.known stops.0.rose
 
 -- a file of the run is too long, and those before it are not
@@ -211,25 +207,25 @@ too_long_exact c status Done a job r contents input read reads known earlier lon
 too_long_exact c status Usage a job r contents input read reads known earlier long = absurd (no_job c job read.words a.1.0)
 too_long_exact c status (ReadFault other) a job r contents input read reads known earlier long = absurd (no_read_fault c job contents other read a.1)
 too_long_exact c status (TooLong other) a job r contents input read reads known earlier long =
-    let stops = stops_here c job contents (TooLong other) read.words read.told a.1 in
+    let stops = stops_here c job contents (TooLong other) read.words read.seen a.1 in
     let first = long_of job r contents other reads stops.0 in
     let same = first_long r contents other input first.known known first.earlier earlier first.longer long in
     inl (subst (λ (i : InputFile). Answers c status (TooLong i)) same a)
 too_long_exact c status (Refused fault) a job r contents input read reads known earlier long =
-    let stops = stops_here c job contents (Refused fault) read.words read.told a.1 in
+    let stops = stops_here c job contents (Refused fault) read.words read.seen a.1 in
     absurd (long_of_inputs job r contents stops.0.table stops.0.captures input reads stops.0.inputs known long)
 too_long_exact c status (JournalTooLong size) a job r contents input read reads known earlier long =
-    let stops = stops_here c job contents (JournalTooLong size) read.words read.told a.1 in
+    let stops = stops_here c job contents (JournalTooLong size) read.words read.seen a.1 in
     absurd (long_of_inputs job r contents stops.0.table stops.0.captures input reads stops.0.inputs known long)
 too_long_exact c status (PacketsTooLong size) a job r contents input read reads known earlier long =
-    let stops = stops_here c job contents (PacketsTooLong size) read.words read.told a.1 in
+    let stops = stops_here c job contents (PacketsTooLong size) read.words read.seen a.1 in
     absurd (long_of_inputs job r contents stops.0.table stops.0.captures input reads stops.0.inputs known long)
 too_long_exact c status OutOfMemory a job r contents input read reads known earlier long = inr a
 too_long_exact c status (WriteFault written) a job r contents input read reads known earlier long =
-    let stops = stops_here c job contents (WriteFault written) read.words read.told a.1 in
+    let stops = stops_here c job contents (WriteFault written) read.words read.seen a.1 in
     absurd (long_of_inputs job r contents stops.made.table stops.made.captures input reads stops.made.inputs known long)
 too_long_exact c status (Checked e) a job r contents input read reads known earlier long =
-    let stops = stops_here c job contents (Checked e) read.words read.told a.1 in
+    let stops = stops_here c job contents (Checked e) read.words read.seen a.1 in
     absurd (no_reads job stops.words r stops.is_check reads)
 
 -- ---- the run behind a command

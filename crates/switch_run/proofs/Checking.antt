@@ -70,23 +70,23 @@ module _ (c : Command) (words : CheckWords) (contents : Contents) (is : IsChecka
   same_words : (other : CheckWords) → check words ≡ check other → other ≡ words
   same_words other same = cc
 
-  here : (ending : Ending) → (s : IsStopped c ending) → Stops (check words) (Some contents) c.was c.now s.told ending
-  here ending s = stops_here c (check words) contents ending is.words is.told s
+  here : (ending : Ending) → (s : IsStopped c ending) → Stops (check words) (Some contents) c.was c.now s.seen ending
+  here ending s = stops_here c (check words) contents ending is.words is.seen s
 
   -- how the check of this file ended
-  means : (e : CheckEnding) → (s : IsStopped c (Checked e)) → MeansCheck by words.file (Some contents) s.told c.was c.now e
+  means : (e : CheckEnding) → (s : IsStopped c (Checked e)) → MeansCheck by words.file (Some contents) s.seen c.was c.now e
   means e s = let stops = here (Checked e) s in
-      subst (λ (w : CheckWords). MeansCheck (decision_named w.scheduler) w.file (Some contents) s.told c.was c.now e)
+      subst (λ (w : CheckWords). MeansCheck (decision_named w.scheduler) w.file (Some contents) s.seen c.was c.now e)
       (same_words stops.words stops.is_check) stops.means
 
   -- memory ran out in the check
   out : (status : ℕ) → Answers c status (Checked check_ending.OutOfMemory) → Answers c status OutOfMemory
   out status a =
       let s = a.1 in
-      let told : s.told ≡ c.old = means check_ending.OutOfMemory s ∙ sym is.told in
-      let line = subst (λ (job : JobWords). GivesLine (line_of job (Checked check_ending.OutOfMemory)) s.told c.new _ _)
+      let seen : s.seen ≡ c.old = means check_ending.OutOfMemory s ∙ sym is.seen in
+      let line = subst (λ (job : JobWords). GivesLine (line_of job (Checked check_ending.OutOfMemory)) s.seen c.new _ _)
       (same_job c (check words) s.job is.words s.words) s.line in
-      (a.0, subst (λ (o : Option Contents). GivesLine _ o c.new _ _) told line)
+      (a.0, subst (λ (o : Option Contents). GivesLine _ o c.new _ _) seen line)
 
   -- a check ends as one, or memory ran out
   abbrev pub EndsAs : Ending → Type 0

@@ -113,35 +113,35 @@ goes_on c f name before after same free stops =
     let here = subst (IsWritable c) (sym same) free in
     elim stops [ AtBegin rose was ↦ here.begins rose | AtWrite n rose part ↦ here.writes rose ]
 
-no_write_fault : (c : Command) (job : JobWords) (contents : Contents) (texts : Texts) (told : Option Contents) (written : Written) → RunsSwitch job
+no_write_fault : (c : Command) (job : JobWords) (contents : Contents) (texts : Texts) (seen : Option Contents) (written : Written) → RunsSwitch job
     → AreWritable c job → IsMade job (Some contents) texts
-    → StopsWriting job texts written (Some contents) c.was c.now told → ⊥
-no_write_fault c (run r) contents texts told (Output port) runs free made s =
+    → StopsWriting job texts written (Some contents) c.was c.now seen → ⊥
+no_write_fault c (run r) contents texts seen (Output port) runs free made s =
     let port_in : port < length r.inputs = omega (arith, s.0, made.count, made.inputs.captures_read.count) in
-    goes_on c _ (output_name r.prefix port) _ told (name_of_output r texts port s.0) (free.outputs r port refl port_in) s.1.stops
-no_write_fault c (run r) contents texts told Report runs free made s =
-    goes_on c _ (report_name r.prefix) _ told (name_of_report r texts) (free.report r refl) s.stops
-no_write_fault c (run r) contents texts told Journal runs free made s =
+    goes_on c _ (output_name r.prefix port) _ seen (name_of_output r texts port s.0) (free.outputs r port refl port_in) s.1.stops
+no_write_fault c (run r) contents texts seen Report runs free made s =
+    goes_on c _ (report_name r.prefix) _ seen (name_of_report r texts) (free.report r refl) s.stops
+no_write_fault c (run r) contents texts seen Journal runs free made s =
     let is = made.outcome in
     let wanted = was_wanted r.journal (journal_text_under (decision_named r.scheduler) is.plan is.slots) texts.journal
     (ap (λ (t : Texts). t.journal) is.are) s.0 in
-    goes_on c _ (journal_name r.prefix) _ told (journal_at r texts texts.journal texts.packets s.0) (free.journal r refl wanted) s.1.stops
-no_write_fault c (run r) contents texts told Packets runs free made s =
+    goes_on c _ (journal_name r.prefix) _ seen (journal_at r texts texts.journal texts.packets s.0) (free.journal r refl wanted) s.1.stops
+no_write_fault c (run r) contents texts seen Packets runs free made s =
     let is = made.outcome in
     let at = packets_at r texts texts.journal texts.packets s.within in
     let wanted = was_wanted r.packets (packets_text_under (decision_named r.scheduler) is.plan is.slots) texts.packets
     (ap (λ (t : Texts). t.packets) is.are) at.0 in
-    goes_on c _ (packets_name r.prefix) _ told at.1 (free.packets r refl wanted) s.stops
-no_write_fault c (gen g) contents texts told (Output port) runs free made s = omega (arith, s.1.within)
-no_write_fault c (gen g) contents texts told Report runs free made s = omega (arith, s.within)
-no_write_fault c (gen g) contents texts told Journal runs free made s = omega (arith, s.1.within)
-no_write_fault c (gen g) contents texts told Packets runs free made s = omega (arith, s.within)
-no_write_fault c (check w) contents texts told written runs free made s = runs
-no_write_fault c (firm f) contents texts told (Output port) runs free made s = omega (arith, s.1.within)
-no_write_fault c (firm f) contents texts told Report runs free made s = omega (arith, s.within)
-no_write_fault c (firm f) contents texts told Journal runs free made s = omega (arith, s.1.within)
-no_write_fault c (firm f) contents texts told Packets runs free made s = omega (arith, s.within)
-no_write_fault c job contents texts told StandardOutput runs free made s = free.out s.rose
+    goes_on c _ (packets_name r.prefix) _ seen at.1 (free.packets r refl wanted) s.stops
+no_write_fault c (gen g) contents texts seen (Output port) runs free made s = omega (arith, s.1.within)
+no_write_fault c (gen g) contents texts seen Report runs free made s = omega (arith, s.within)
+no_write_fault c (gen g) contents texts seen Journal runs free made s = omega (arith, s.1.within)
+no_write_fault c (gen g) contents texts seen Packets runs free made s = omega (arith, s.within)
+no_write_fault c (check w) contents texts seen written runs free made s = runs
+no_write_fault c (firm f) contents texts seen (Output port) runs free made s = omega (arith, s.1.within)
+no_write_fault c (firm f) contents texts seen Report runs free made s = omega (arith, s.within)
+no_write_fault c (firm f) contents texts seen Journal runs free made s = omega (arith, s.1.within)
+no_write_fault c (firm f) contents texts seen Packets runs free made s = omega (arith, s.within)
+no_write_fault c job contents texts seen StandardOutput runs free made s = free.out s.rose
 
 check_runs_none : (job : JobWords) (words : CheckWords) → job ≡ check words → RunsSwitch job → ⊥
 check_runs_none job words is runs = subst RunsSwitch is runs
@@ -151,21 +151,21 @@ complete c status Done a job contents runs read written fit taken short small = 
 complete c status Usage a job contents runs read written fit taken short small = absurd (no_job c job read.words a.1.0)
 complete c status (ReadFault input) a job contents runs read written fit taken short small = absurd (no_read_fault c job contents input read a.1)
 complete c status (TooLong input) a job contents runs read written fit taken short small =
-    let stops = stops_here c job contents (TooLong input) read.words read.told a.1 in
+    let stops = stops_here c job contents (TooLong input) read.words read.seen a.1 in
     absurd (fit stops.0.words input stops.0.reads stops.0.known stops.0.longer)
 complete c status (Refused fault) a job contents runs read written fit taken short small =
-    let stops = stops_here c job contents (Refused fault) read.words read.told a.1 in
+    let stops = stops_here c job contents (Refused fault) read.words read.seen a.1 in
     absurd (taken stops.0.table stops.0.captures fault stops.0.inputs stops.0.outcome)
 complete c status (JournalTooLong size) a job contents runs read written fit taken short small =
-    let stops = stops_here c job contents (JournalTooLong size) read.words read.told a.1 in
+    let stops = stops_here c job contents (JournalTooLong size) read.words read.seen a.1 in
     absurd (short stops.0.words stops.0.table stops.0.captures size stops.0.is_run stops.0.wanted stops.0.inputs stops.0.longer)
 complete c status (PacketsTooLong size) a job contents runs read written fit taken short small =
-    let stops = stops_here c job contents (PacketsTooLong size) read.words read.told a.1 in
+    let stops = stops_here c job contents (PacketsTooLong size) read.words read.seen a.1 in
     absurd (small stops.0.words stops.0.table stops.0.captures size stops.0.is_run stops.0.wanted stops.0.inputs stops.0.longer)
 complete c status OutOfMemory a job contents runs read written fit taken short small = inr a.0
 complete c status (WriteFault what) a job contents runs read written fit taken short small =
-    let stops = stops_here c job contents (WriteFault what) read.words read.told a.1 in
-    absurd (no_write_fault c job contents stops.texts a.1.told what runs written stops.made stops.stops)
+    let stops = stops_here c job contents (WriteFault what) read.words read.seen a.1 in
+    absurd (no_write_fault c job contents stops.texts a.1.seen what runs written stops.made stops.stops)
 complete c status (Checked e) a job contents runs read written fit taken short small =
-    let stops = stops_here c job contents (Checked e) read.words read.told a.1 in
+    let stops = stops_here c job contents (Checked e) read.words read.seen a.1 in
     absurd (check_runs_none job stops.words stops.is_check runs)

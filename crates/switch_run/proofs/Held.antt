@@ -60,7 +60,7 @@ module _ (job : JobWords) (texts : Texts) (was now : Place → ℕ) (before afte
   writing_changes Report s = place_changes (length texts.outputs) s
   writing_changes Journal s = place_changes (length texts.outputs + 1) s.1
   writing_changes Packets s = place_changes (packets_place (length texts.outputs) (is_some texts.journal)) s
-  writing_changes StandardOutput s = (λ c. append_out (take s.given texts.summary) (put_files (files_of job texts) c), s.told_is)
+  writing_changes StandardOutput s = (λ c. append_out (take s.given texts.summary) (put_files (files_of job texts) c), s.new_is)
 
 end_changes : (job : JobWords) (before after : Option Contents) (was now : Place → ℕ) (ending : Ending) → RunsSwitch job
     → IsEndOf job before was now after ending → IsChanged before after

@@ -155,10 +155,10 @@ wider_capture : (long : Bool) (n : ℕ) → n ≤ capture_bytes long → n ≤ c
 wider_capture true n fits = fits
 wider_capture false n fits = omega (arith, fits)
 
-still_read : (r s : ReadWords) (told : Option Contents) (table : List ℕ) (captures : List (List ℕ)) → s ≡ record r { long = true }
-    → AreFilesRead r told table captures → AreFilesRead s told table captures
-still_read r s told table captures is read =
-    subst (λ (words : ReadWords). AreFilesRead words told table captures) (sym is)
+still_read : (r s : ReadWords) (seen : Option Contents) (table : List ℕ) (captures : List (List ℕ)) → s ≡ record r { long = true }
+    → AreFilesRead r seen table captures → AreFilesRead s seen table captures
+still_read r s seen table captures is read =
+    subst (λ (words : ReadWords). AreFilesRead words seen table captures) (sym is)
     (record {
       table_fits = read.table_fits;
       table_there = read.table_there;
@@ -169,11 +169,11 @@ still_read r s told table captures is read =
       };
     })
 
-pub same_inputs_when_long : (job : JobWords) (told : Option Contents) (table : List ℕ) (captures : List (List ℕ)) → AreInputs job told table captures
-    → AreInputs (with_long job) told table captures
-same_inputs_when_long (run r) told table captures is = still_read (run_reads r) (run_reads (record r { settings = long_settings r.settings })) told table
+pub same_inputs_when_long : (job : JobWords) (seen : Option Contents) (table : List ℕ) (captures : List (List ℕ)) → AreInputs job seen table captures
+    → AreInputs (with_long job) seen table captures
+same_inputs_when_long (run r) seen table captures is = still_read (run_reads r) (run_reads (record r { settings = long_settings r.settings })) seen table
     captures refl is
-same_inputs_when_long (gen g) told table captures is = is
-same_inputs_when_long (check c) told table captures is = is
-same_inputs_when_long (firm f) told table captures is = still_read (firm_reads f) (firm_reads (record f { settings = long_settings f.settings })) told table
+same_inputs_when_long (gen g) seen table captures is = is
+same_inputs_when_long (check c) seen table captures is = is
+same_inputs_when_long (firm f) seen table captures is = still_read (firm_reads f) (firm_reads (record f { settings = long_settings f.settings })) seen table
     captures refl is

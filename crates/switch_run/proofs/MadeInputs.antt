@@ -49,18 +49,18 @@ nothing_made g old texts fault m refused =
     (subst (λ (files : List (List ℕ)). AreTexts (gen g) m.table files texts) m.inputs.1 m.outcome))
 
 -- all that it writes is given to standard output
-out_refused : (c : Command) (g : GenJob) (texts : Texts) (what : Written) (told : Option Contents) → StopsWriting (gen g) texts what c.old c.was c.now told
+out_refused : (c : Command) (g : GenJob) (texts : Texts) (what : Written) (seen : Option Contents) → StopsWriting (gen g) texts what c.old c.was c.now seen
     → Rose (c.was ToOut) (c.now ToOut)
-out_refused c g texts (Output port) told s = absurd (omega (arith, s.1.within))
-out_refused c g texts Report told s = absurd (omega (arith, s.within))
-out_refused c g texts Journal told s = absurd (omega (arith, s.1.within))
-out_refused c g texts Packets told s = absurd (omega (arith, s.within))
-out_refused c g texts StandardOutput told s = s.rose
+out_refused c g texts (Output port) seen s = absurd (omega (arith, s.1.within))
+out_refused c g texts Report seen s = absurd (omega (arith, s.within))
+out_refused c g texts Journal seen s = absurd (omega (arith, s.1.within))
+out_refused c g texts Packets seen s = absurd (omega (arith, s.within))
+out_refused c g texts StandardOutput seen s = s.rose
 
 module _ (c : Command) (status : ℕ) (g : GenJob) (words : c.job ≡ Some (gen g)) where
   -- why it stopped
-  stops_of : (ending : Ending) → (s : IsStopped c ending) → Stops (gen g) c.old c.was c.now s.told ending
-  stops_of ending s = subst (λ (n : JobWords). Stops n c.old c.was c.now s.told ending) (same_job c (gen g) s.job words s.words) s.stops
+  stops_of : (ending : Ending) → (s : IsStopped c ending) → Stops (gen g) c.old c.was c.now s.seen ending
+  stops_of ending s = subst (λ (n : JobWords). Stops n c.old c.was c.now s.seen ending) (same_job c (gen g) s.job words s.words) s.stops
 
   -- what it wrote, where it did
   done_of : (job : JobWords) → c.job ≡ Some job → IsDone job c.old c.new → IsDone (gen g) c.old c.new
@@ -107,7 +107,7 @@ module _ (c : Command) (status : ℕ) (g : GenJob) (words : c.job ≡ Some (gen 
   complete_made OutOfMemory a taken free = inr a.0
   complete_made (WriteFault what) a taken free =
       let stops = stops_of (WriteFault what) a.1 in
-      absurd (free (out_refused c g stops.texts what a.1.told stops.stops))
+      absurd (free (out_refused c g stops.texts what a.1.seen stops.stops))
   complete_made (Checked e) a taken free = let stops = stops_of (Checked e) a.1 in absurd (not_check g stops.words stops.is_check)
 
 pub gen_exact : (c : Command) (status : ℕ) (ending : Ending) → Answers c status ending → GenIsExact c status

@@ -147,24 +147,24 @@ refusal_exact c status Done a job contents table captures fault read inputs refu
 refusal_exact c status Usage a job contents table captures fault read inputs refused = absurd (no_job c job read.words a.1.0)
 refusal_exact c status (ReadFault input) a job contents table captures fault read inputs refused = absurd (no_read_fault c job contents input read a.1)
 refusal_exact c status (TooLong input) a job contents table captures fault read inputs refused =
-    let stops = stops_here c job contents (TooLong input) read.words read.told a.1 in
+    let stops = stops_here c job contents (TooLong input) read.words read.seen a.1 in
     absurd (long_input job contents table captures input inputs stops.0)
 refusal_exact c status (Refused found) a job contents table captures fault read inputs refused =
-    let stops = stops_here c job contents (Refused found) read.words read.told a.1 in
+    let stops = stops_here c job contents (Refused found) read.words read.seen a.1 in
     let same = same_cause job contents table stops.0.table captures stops.0.captures fault found inputs stops.0.inputs refused stops.0.outcome in
     inl (subst (λ (f : PlanFault). Answers c status (Refused f)) same a)
 refusal_exact c status (JournalTooLong size) a job contents table captures fault read inputs refused =
-    let stops = stops_here c job contents (JournalTooLong size) read.words read.told a.1 in
+    let stops = stops_here c job contents (JournalTooLong size) read.words read.seen a.1 in
     absurd (refused_or_long job contents table captures fault size inputs refused stops.0)
 refusal_exact c status (PacketsTooLong size) a job contents table captures fault read inputs refused =
-    let stops = stops_here c job contents (PacketsTooLong size) read.words read.told a.1 in
+    let stops = stops_here c job contents (PacketsTooLong size) read.words read.seen a.1 in
     absurd (refused_or_long_packets job contents table captures fault size inputs refused stops.0)
 refusal_exact c status OutOfMemory a job contents table captures fault read inputs refused = inr a
 refusal_exact c status (WriteFault written) a job contents table captures fault read inputs refused =
-    let stops = stops_here c job contents (WriteFault written) read.words read.told a.1 in
+    let stops = stops_here c job contents (WriteFault written) read.words read.seen a.1 in
     absurd (nothing_made job contents table stops.made.table captures stops.made.captures fault stops.texts inputs stops.made.inputs refused stops.made.outcome)
 refusal_exact c status (Checked e) a job contents table captures fault read inputs refused =
-    let stops = stops_here c job contents (Checked e) read.words read.told a.1 in
+    let stops = stops_here c job contents (Checked e) read.words read.seen a.1 in
     absurd (no_inputs job stops.words (Some contents) table captures stops.is_check inputs)
 
 -- a journal that is wanted and too long was not made
@@ -194,27 +194,27 @@ journal_exact c status Done a r contents table captures size read wanted inputs 
 journal_exact c status Usage a r contents table captures size read wanted inputs long = absurd (no_job c (run r) read.words a.1.0)
 journal_exact c status (ReadFault input) a r contents table captures size read wanted inputs long = absurd (no_read_fault c (run r) contents input read a.1)
 journal_exact c status (TooLong input) a r contents table captures size read wanted inputs long =
-    let stops = stops_here c (run r) contents (TooLong input) read.words read.told a.1 in
+    let stops = stops_here c (run r) contents (TooLong input) read.words read.seen a.1 in
     absurd (long_input (run r) contents table captures input inputs stops.0)
 journal_exact c status (Refused fault) a r contents table captures size read wanted inputs long =
-    let stops = stops_here c (run r) contents (Refused fault) read.words read.told a.1 in
+    let stops = stops_here c (run r) contents (Refused fault) read.words read.seen a.1 in
     absurd (refused_is_not_long r contents stops.0.table table stops.0.captures captures fault size stops.0.inputs inputs stops.0.outcome long)
 journal_exact c status (JournalTooLong found) a r contents table captures size read wanted inputs long =
-    let stops = stops_here c (run r) contents (JournalTooLong found) read.words read.told a.1 in
+    let stops = stops_here c (run r) contents (JournalTooLong found) read.words read.seen a.1 in
     let here = long_of_run r contents found stops.0 in
     inl (subst (λ (n : ℕ). Answers c status (JournalTooLong n))
     (same_size r contents here.table table here.captures captures found size here.inputs inputs here.longer long) a)
 journal_exact c status (PacketsTooLong found) a r contents table captures size read wanted inputs long =
-    let stops = stops_here c (run r) contents (PacketsTooLong found) read.words read.told a.1 in
+    let stops = stops_here c (run r) contents (PacketsTooLong found) read.words read.seen a.1 in
     let here = packets_of_run r contents found stops.0 in
     absurd (here.journal_fits size wanted (long_elsewhere r contents table here.table captures here.captures size inputs here.inputs long))
 journal_exact c status OutOfMemory a r contents table captures size read wanted inputs long = inr a
 journal_exact c status (WriteFault written) a r contents table captures size read wanted inputs long =
-    let stops = stops_here c (run r) contents (WriteFault written) read.words read.told a.1 in
+    let stops = stops_here c (run r) contents (WriteFault written) read.words read.seen a.1 in
     absurd (long_is_not_made r contents stops.made.table table stops.made.captures captures stops.texts size wanted stops.made.inputs inputs
     stops.made.outcome long)
 journal_exact c status (Checked e) a r contents table captures size read wanted inputs long =
-    let stops = stops_here c (run r) contents (Checked e) read.words read.told a.1 in
+    let stops = stops_here c (run r) contents (Checked e) read.words read.seen a.1 in
     absurd (run_is_no_check r stops.words stops.is_check)
 
 -- a packets file that is wanted and too long was not made
@@ -232,26 +232,26 @@ packets_exact c status Usage a r contents table captures size read wanted inputs
 packets_exact c status (ReadFault input) a r contents table captures size read wanted inputs fits long =
     absurd (no_read_fault c (run r) contents input read a.1)
 packets_exact c status (TooLong input) a r contents table captures size read wanted inputs fits long =
-    let stops = stops_here c (run r) contents (TooLong input) read.words read.told a.1 in
+    let stops = stops_here c (run r) contents (TooLong input) read.words read.seen a.1 in
     absurd (long_input (run r) contents table captures input inputs stops.0)
 packets_exact c status (Refused fault) a r contents table captures size read wanted inputs fits long =
-    let stops = stops_here c (run r) contents (Refused fault) read.words read.told a.1 in
+    let stops = stops_here c (run r) contents (Refused fault) read.words read.seen a.1 in
     absurd (refused_is_not_long_packets r contents stops.0.table table stops.0.captures captures fault size stops.0.inputs inputs stops.0.outcome long)
 packets_exact c status (JournalTooLong found) a r contents table captures size read wanted inputs fits long =
-    let stops = stops_here c (run r) contents (JournalTooLong found) read.words read.told a.1 in
+    let stops = stops_here c (run r) contents (JournalTooLong found) read.words read.seen a.1 in
     let here = wanted_long r contents found stops.0 in
     absurd (fits found here.1 (long_elsewhere r contents here.0.table table here.0.captures captures found here.0.inputs inputs here.0.longer))
 packets_exact c status (PacketsTooLong found) a r contents table captures size read wanted inputs fits long =
-    let stops = stops_here c (run r) contents (PacketsTooLong found) read.words read.told a.1 in
+    let stops = stops_here c (run r) contents (PacketsTooLong found) read.words read.seen a.1 in
     let here = packets_of_run r contents found stops.0 in
     let there = packets_elsewhere r contents here.table table here.captures captures found here.inputs inputs here.longer in
     inl (subst (λ (n : ℕ). Answers c status (PacketsTooLong n))
     (long_packets_once (decision_named r.scheduler) r.settings table captures found size there long) a)
 packets_exact c status OutOfMemory a r contents table captures size read wanted inputs fits long = inr a
 packets_exact c status (WriteFault written) a r contents table captures size read wanted inputs fits long =
-    let stops = stops_here c (run r) contents (WriteFault written) read.words read.told a.1 in
+    let stops = stops_here c (run r) contents (WriteFault written) read.words read.seen a.1 in
     absurd (packets_not_made r contents stops.made.table table stops.made.captures captures stops.texts size wanted stops.made.inputs inputs
     stops.made.outcome long)
 packets_exact c status (Checked e) a r contents table captures size read wanted inputs fits long =
-    let stops = stops_here c (run r) contents (Checked e) read.words read.told a.1 in
+    let stops = stops_here c (run r) contents (Checked e) read.words read.seen a.1 in
     absurd (run_is_no_check r stops.words stops.is_check)

@@ -29,18 +29,18 @@ use Rattle.job_files.specs.declared.ending.Written.TheVariants.{Output, Report, 
 use Rattle.job_files.specs.declared.ending.Ending.{Ending}
 use Rattle.job_files.specs.declared.ending.Ending.TheVariants.{Done, Usage, ReadFault, TooLong, Refused, JournalTooLong, PacketsTooLong, OutOfMemory}
 use Rattle.job_files.specs.declared.ending.Ending.TheVariants.{WriteFault, Checked}
-use Rattle.job_files.proofs.Holding.{holds_told, length-files_from}
+use Rattle.job_files.proofs.Holding.{holds_seen, length-files_from}
 
-module _ (job : JobWords) (texts : Texts) (a b c d : Place → ℕ) (old told : Option Contents) (start : NeverFall a b) (end : NeverFall c d) where
-  StopsAtFile-wider : (place : ℕ) → StopsAtFile job texts place old b c told → StopsAtFile job texts place old a d told
-  StopsAtFile-wider place s = record { within = s.within; stops = StopsAt-wider _ a b c d _ told start end s.stops }
+module _ (job : JobWords) (texts : Texts) (a b c d : Place → ℕ) (old seen : Option Contents) (start : NeverFall a b) (end : NeverFall c d) where
+  StopsAtFile-wider : (place : ℕ) → StopsAtFile job texts place old b c seen → StopsAtFile job texts place old a d seen
+  StopsAtFile-wider place s = record { within = s.within; stops = StopsAt-wider _ a b c d _ seen start end s.stops }
 
-  StopsWriting-wider : (written : Written) → StopsWriting job texts written old b c told → StopsWriting job texts written old a d told
+  StopsWriting-wider : (written : Written) → StopsWriting job texts written old b c seen → StopsWriting job texts written old a d seen
   StopsWriting-wider (Output port) s = (s.0, StopsAtFile-wider port s.1)
   StopsWriting-wider Report s = StopsAtFile-wider (length texts.outputs) s
   StopsWriting-wider Journal s = (s.0, StopsAtFile-wider (length texts.outputs + 1) s.1)
   StopsWriting-wider Packets s = StopsAtFile-wider (packets_place (length texts.outputs) (is_some texts.journal)) s
-  StopsWriting-wider StandardOutput s = record { rose = Rose-wider a b c d ToOut start end s.rose; given = s.given; told_is = s.told_is }
+  StopsWriting-wider StandardOutput s = record { rose = Rose-wider a b c d ToOut start end s.rose; given = s.given; new_is = s.new_is }
 
 -- how a check ended within a span of calls is how it ended within a longer one
 MeansCheck-wider : (scheduler : Scheduler) (name : List ℕ) (old new : Option Contents) (a b c d : Place → ℕ) (ending : CheckEnding)
@@ -55,11 +55,11 @@ MeansCheck-wider scheduler name old new a b c d check_ending.OutOfMemory start e
 MeansCheck-wider scheduler name old new a b c d check_ending.OutFault start end m = (m.0, m.1, m.2, Rose-wider a b c d ToOut start end m.3, m.4)
 
 -- why a job stopped within a span of calls is why it stopped within a longer one
-Stops-wider : (job : JobWords) (old : Option Contents) (a b c d : Place → ℕ) (told : Option Contents) (ending : Ending) → NeverFall a b → NeverFall c d
-    → Stops job old b c told ending → Stops job old a d told ending
-Stops-wider job old a b c d told Done start end stops = stops
-Stops-wider job old a b c d told Usage start end stops = stops
-Stops-wider job old a b c d told (ReadFault input) start end stops = (
+Stops-wider : (job : JobWords) (old : Option Contents) (a b c d : Place → ℕ) (seen : Option Contents) (ending : Ending) → NeverFall a b → NeverFall c d
+    → Stops job old b c seen ending → Stops job old a d seen ending
+Stops-wider job old a b c d seen Done start end stops = stops
+Stops-wider job old a b c d seen Usage start end stops = stops
+Stops-wider job old a b c d seen (ReadFault input) start end stops = (
   record {
     words = stops.0.words;
     reads = stops.0.reads;
@@ -69,71 +69,71 @@ Stops-wider job old a b c d told (ReadFault input) start end stops = (
   },
   stops.1,
 )
-Stops-wider job old a b c d told (TooLong input) start end stops = stops
-Stops-wider job old a b c d told (Refused fault) start end stops = stops
-Stops-wider job old a b c d told (JournalTooLong size) start end stops = stops
-Stops-wider job old a b c d told (PacketsTooLong size) start end stops = stops
-Stops-wider job old a b c d told OutOfMemory start end stops = stops
-Stops-wider job old a b c d told (WriteFault written) start end stops =
-    record { texts = stops.texts; made = stops.made; stops = StopsWriting-wider job stops.texts a b c d old told start end written stops.stops }
-Stops-wider job old a b c d told (Checked ending) start end stops =
+Stops-wider job old a b c d seen (TooLong input) start end stops = stops
+Stops-wider job old a b c d seen (Refused fault) start end stops = stops
+Stops-wider job old a b c d seen (JournalTooLong size) start end stops = stops
+Stops-wider job old a b c d seen (PacketsTooLong size) start end stops = stops
+Stops-wider job old a b c d seen OutOfMemory start end stops = stops
+Stops-wider job old a b c d seen (WriteFault written) start end stops =
+    record { texts = stops.texts; made = stops.made; stops = StopsWriting-wider job stops.texts a b c d old seen start end written stops.stops }
+Stops-wider job old a b c d seen (Checked ending) start end stops =
     record {
       words = stops.words;
       is_check = stops.is_check;
-      means = MeansCheck-wider (decision_named stops.words.scheduler) stops.words.file old told a b c d ending start end stops.means;
+      means = MeansCheck-wider (decision_named stops.words.scheduler) stops.words.file old seen a b c d ending start end stops.means;
     }
 
 -- a job whose files were not read
-pub reading_stops : (job : JobWords) (r : ReadWords) (old told : Option Contents) (was now : Place → ℕ) (ending : Ending) → reads_of job ≡ Some r → told ≡ old
-    → StopsReading r old was now ending → Stops job old was now told ending
-reading_stops job r old told was now Done reads same stops = stops
-reading_stops job r old told was now Usage reads same stops = absurd stops
-reading_stops job r old told was now (ReadFault input) reads same stops =
+pub reading_stops : (job : JobWords) (r : ReadWords) (old seen : Option Contents) (was now : Place → ℕ) (ending : Ending) → reads_of job ≡ Some r → seen ≡ old
+    → StopsReading r old was now ending → Stops job old was now seen ending
+reading_stops job r old seen was now Done reads same stops = stops
+reading_stops job r old seen was now Usage reads same stops = absurd stops
+reading_stops job r old seen was now (ReadFault input) reads same stops =
     (record { words = r; reads = reads; known = stops.0; earlier = stops.1; rose = stops.2 }, same)
-reading_stops job r old told was now (TooLong input) reads same stops =
+reading_stops job r old seen was now (TooLong input) reads same stops =
     (record { words = r; reads = reads; known = stops.0; earlier = stops.1; longer = stops.2 }, same)
-reading_stops job r old told was now (Refused fault) reads same stops = absurd stops
-reading_stops job r old told was now (JournalTooLong size) reads same stops = absurd stops
-reading_stops job r old told was now (PacketsTooLong size) reads same stops = absurd stops
-reading_stops job r old told was now OutOfMemory reads same stops = same
-reading_stops job r old told was now (WriteFault written) reads same stops = absurd stops
-reading_stops job r old told was now (Checked ending) reads same stops = absurd stops
+reading_stops job r old seen was now (Refused fault) reads same stops = absurd stops
+reading_stops job r old seen was now (JournalTooLong size) reads same stops = absurd stops
+reading_stops job r old seen was now (PacketsTooLong size) reads same stops = absurd stops
+reading_stops job r old seen was now OutOfMemory reads same stops = same
+reading_stops job r old seen was now (WriteFault written) reads same stops = absurd stops
+reading_stops job r old seen was now (Checked ending) reads same stops = absurd stops
 
 -- ---- plans and texts
 
 -- the inputs were refused, or memory ran out
-pub plan_stops : (job : JobWords) (old told : Option Contents) (was now : Place → ℕ) (table : List ℕ) (captures : List (List ℕ)) (ending : Ending)
-    → told ≡ old → AreInputs job old table captures
-    → StopsPlan (terms_in job) table captures ending → Stops job old was now told ending
-plan_stops job old told was now table captures Done same inputs stops = stops
-plan_stops job old told was now table captures Usage same inputs stops = stops
-plan_stops job old told was now table captures (ReadFault input) same inputs stops = absurd stops
-plan_stops job old told was now table captures (TooLong input) same inputs stops = absurd stops
-plan_stops job old told was now table captures (Refused fault) same inputs stops =
+pub plan_stops : (job : JobWords) (old seen : Option Contents) (was now : Place → ℕ) (table : List ℕ) (captures : List (List ℕ)) (ending : Ending)
+    → seen ≡ old → AreInputs job old table captures
+    → StopsPlan (terms_in job) table captures ending → Stops job old was now seen ending
+plan_stops job old seen was now table captures Done same inputs stops = stops
+plan_stops job old seen was now table captures Usage same inputs stops = stops
+plan_stops job old seen was now table captures (ReadFault input) same inputs stops = absurd stops
+plan_stops job old seen was now table captures (TooLong input) same inputs stops = absurd stops
+plan_stops job old seen was now table captures (Refused fault) same inputs stops =
     (record { table = table; captures = captures; inputs = inputs; outcome = stops }, same)
-plan_stops job old told was now table captures (JournalTooLong size) same inputs stops = absurd stops
-plan_stops job old told was now table captures (PacketsTooLong size) same inputs stops = absurd stops
-plan_stops job old told was now table captures OutOfMemory same inputs stops = same
-plan_stops job old told was now table captures (WriteFault written) same inputs stops = absurd stops
-plan_stops job old told was now table captures (Checked ending) same inputs stops = absurd stops
+plan_stops job old seen was now table captures (JournalTooLong size) same inputs stops = absurd stops
+plan_stops job old seen was now table captures (PacketsTooLong size) same inputs stops = absurd stops
+plan_stops job old seen was now table captures OutOfMemory same inputs stops = same
+plan_stops job old seen was now table captures (WriteFault written) same inputs stops = absurd stops
+plan_stops job old seen was now table captures (Checked ending) same inputs stops = absurd stops
 
 -- the texts of a `run` job were not made
-pub texts_stop : (r : RunWords) (old told : Option Contents) (was now : Place → ℕ) (table : List ℕ) (captures : List (List ℕ)) (ending : Ending) → told ≡ old
+pub texts_stop : (r : RunWords) (old seen : Option Contents) (was now : Place → ℕ) (table : List ℕ) (captures : List (List ℕ)) (ending : Ending) → seen ≡ old
     → AreInputs (run r) old table captures
-    → StopsTexts (decision_named r.scheduler) r.settings (wanted_by r) table captures ending → Stops (run r) old was now told ending
-texts_stop r old told was now table captures Done same inputs stops = stops
-texts_stop r old told was now table captures Usage same inputs stops = stops
-texts_stop r old told was now table captures (ReadFault input) same inputs stops = absurd stops
-texts_stop r old told was now table captures (TooLong input) same inputs stops = absurd stops
-texts_stop r old told was now table captures (Refused fault) same inputs stops =
-    plan_stops (run r) old told was now table captures (Refused fault) same inputs stops
-texts_stop r old told was now table captures (JournalTooLong size) same inputs stops =
+    → StopsTexts (decision_named r.scheduler) r.settings (wanted_by r) table captures ending → Stops (run r) old was now seen ending
+texts_stop r old seen was now table captures Done same inputs stops = stops
+texts_stop r old seen was now table captures Usage same inputs stops = stops
+texts_stop r old seen was now table captures (ReadFault input) same inputs stops = absurd stops
+texts_stop r old seen was now table captures (TooLong input) same inputs stops = absurd stops
+texts_stop r old seen was now table captures (Refused fault) same inputs stops =
+    plan_stops (run r) old seen was now table captures (Refused fault) same inputs stops
+texts_stop r old seen was now table captures (JournalTooLong size) same inputs stops =
     (record { words = r; is_run = refl; wanted = stops.0; table = table; captures = captures; inputs = inputs; longer = stops.1 }, same)
-texts_stop r old told was now table captures (PacketsTooLong size) same inputs stops =
+texts_stop r old seen was now table captures (PacketsTooLong size) same inputs stops =
     (record { words = r; is_run = refl; wanted = stops.0; table = table; captures = captures; inputs = inputs; longer = stops.1; journal_fits = stops.2 }, same)
-texts_stop r old told was now table captures OutOfMemory same inputs stops = same
-texts_stop r old told was now table captures (WriteFault written) same inputs stops = absurd stops
-texts_stop r old told was now table captures (Checked ending) same inputs stops = absurd stops
+texts_stop r old seen was now table captures OutOfMemory same inputs stops = same
+texts_stop r old seen was now table captures (WriteFault written) same inputs stops = absurd stops
+texts_stop r old seen was now table captures (Checked ending) same inputs stops = absurd stops
 
 -- What a command makes of its job and of its texts
 
@@ -165,7 +165,7 @@ module _ (job : JobWords) (old : Option Contents) (written : ToWrite) (w : AreTo
       ∙ ap (λ fs. option_map (λ c. append_out m.texts.summary (put_files fs c)) mid) m.files_are
       ∙ ap (option_map (put_texts job m.texts)) same in
       let few = few_outputs in
-      record { texts = m.texts; made = made; written = all; holds = holds_told job m.texts old new (omega (arith, few)) all }
+      record { texts = m.texts; made = made; written = all; holds = holds_seen job m.texts old new (omega (arith, few)) all }
 
 length-journal_files : (prefix : List ℕ) (journal : Option (List ℕ)) → length (journal_files prefix journal) ≡ (if is_some journal then 1 else 0)
 length-journal_files prefix None = refl
@@ -219,14 +219,14 @@ few_files job old written w =
     omega (arith, n, k, ap length w.made.files_are)
 
 -- a job that has no files stopped after them
-stops_without_files : (job : JobWords) (outputs before : ℕ) (texts : Texts) (what : Written) (old told : Option Contents) (was now : Place → ℕ)
+stops_without_files : (job : JobWords) (outputs before : ℕ) (texts : Texts) (what : Written) (old seen : Option Contents) (was now : Place → ℕ)
     → files_of job texts ≡ []
-    → StopsPutting outputs before (files_of job texts) texts.summary what old was now told → StopsWriting job texts what old was now told
-stops_without_files job outputs before texts (Output port) old told was now none s = let n = ap length none in absurd (omega (arith, s.1.within, n))
-stops_without_files job outputs before texts Report old told was now none s = let n = ap length none in absurd (omega (arith, s.within, n))
-stops_without_files job outputs before texts Journal old told was now none s = let n = ap length none in absurd (omega (arith, s.3.within, n))
-stops_without_files job outputs before texts Packets old told was now none s = let n = ap length none in absurd (omega (arith, s.within, n))
-stops_without_files job outputs before texts StandardOutput old told was now none s = record { rose = s.rose; given = s.given; told_is = s.told_is }
+    → StopsPutting outputs before (files_of job texts) texts.summary what old was now seen → StopsWriting job texts what old was now seen
+stops_without_files job outputs before texts (Output port) old seen was now none s = let n = ap length none in absurd (omega (arith, s.1.within, n))
+stops_without_files job outputs before texts Report old seen was now none s = let n = ap length none in absurd (omega (arith, s.within, n))
+stops_without_files job outputs before texts Journal old seen was now none s = let n = ap length none in absurd (omega (arith, s.3.within, n))
+stops_without_files job outputs before texts Packets old seen was now none s = let n = ap length none in absurd (omega (arith, s.within, n))
+stops_without_files job outputs before texts StandardOutput old seen was now none s = record { rose = s.rose; given = s.given; new_is = s.new_is }
 
 -- the file after the report and before the packets file is the journal's
 journal_place : (outputs place : ℕ) (with_journal : Bool) → outputs < place → place < packets_place outputs with_journal
@@ -234,32 +234,32 @@ journal_place : (outputs place : ℕ) (with_journal : Bool) → outputs < place 
 journal_place outputs place true after before = (refl, omega (arith, after, before))
 journal_place outputs place false after before = absurd (omega (arith, after, before))
 
-run_stops_writing : (r : RunWords) (texts : Texts) (what : Written) (old told : Option Contents) (was now : Place → ℕ)
+run_stops_writing : (r : RunWords) (texts : Texts) (what : Written) (old seen : Option Contents) (was now : Place → ℕ)
     → StopsPutting (length texts.outputs) (packets_place (length texts.outputs) (is_some texts.journal)) (run_files r.prefix texts) texts.summary what old
-    was now told → StopsWriting (run r) texts what old was now told
-run_stops_writing r texts (Output port) old told was now s = (s.0, record { within = s.1.within; stops = s.1.stops })
-run_stops_writing r texts Report old told was now s = record { within = s.within; stops = s.stops }
-run_stops_writing r texts Journal old told was now (place, after, before, s) =
+    was now seen → StopsWriting (run r) texts what old was now seen
+run_stops_writing r texts (Output port) old seen was now s = (s.0, record { within = s.1.within; stops = s.1.stops })
+run_stops_writing r texts Report old seen was now s = record { within = s.within; stops = s.stops }
+run_stops_writing r texts Journal old seen was now (place, after, before, s) =
     let at = journal_place (length texts.outputs) place (is_some texts.journal) after before in
-    (at.0, subst (λ (n : ℕ). StopsAtFile (run r) texts n old was now told) at.1 (record { within = s.within; stops = s.stops }))
-run_stops_writing r texts Packets old told was now s = record { within = s.within; stops = s.stops }
-run_stops_writing r texts StandardOutput old told was now s = record { rose = s.rose; given = s.given; told_is = s.told_is }
+    (at.0, subst (λ (n : ℕ). StopsAtFile (run r) texts n old was now seen) at.1 (record { within = s.within; stops = s.stops }))
+run_stops_writing r texts Packets old seen was now s = record { within = s.within; stops = s.stops }
+run_stops_writing r texts StandardOutput old seen was now s = record { rose = s.rose; given = s.given; new_is = s.new_is }
 
 -- a job that stopped at one of its files, or after them
-stops_writing : (job : JobWords) (outputs before : ℕ) (texts : Texts) (what : Written) (old told : Option Contents) (was now : Place → ℕ)
+stops_writing : (job : JobWords) (outputs before : ℕ) (texts : Texts) (what : Written) (old seen : Option Contents) (was now : Place → ℕ)
     → ((r : RunWords) → job ≡ run r → outputs ≡ length texts.outputs)
     → ((r : RunWords) → job ≡ run r → before ≡ packets_place (length texts.outputs) (is_some texts.journal))
-    → StopsPutting outputs before (files_of job texts) texts.summary what old was now told → StopsWriting job texts what old was now told
-stops_writing (run r) outputs before texts what old told was now count placed s =
-    run_stops_writing r texts what old told was now
-    (subst (λ (n : ℕ). StopsPutting (length texts.outputs) n (run_files r.prefix texts) texts.summary what old was now told) (placed r refl)
-    (subst (λ (n : ℕ). StopsPutting n before (run_files r.prefix texts) texts.summary what old was now told) (count r refl) s))
-stops_writing (gen g) outputs before texts what old told was now count placed s =
-    stops_without_files (gen g) outputs before texts what old told was now refl s
-stops_writing (check c) outputs before texts what old told was now count placed s =
-    stops_without_files (check c) outputs before texts what old told was now refl s
-stops_writing (firm f) outputs before texts what old told was now count placed s =
-    stops_without_files (firm f) outputs before texts what old told was now refl s
+    → StopsPutting outputs before (files_of job texts) texts.summary what old was now seen → StopsWriting job texts what old was now seen
+stops_writing (run r) outputs before texts what old seen was now count placed s =
+    run_stops_writing r texts what old seen was now
+    (subst (λ (n : ℕ). StopsPutting (length texts.outputs) n (run_files r.prefix texts) texts.summary what old was now seen) (placed r refl)
+    (subst (λ (n : ℕ). StopsPutting n before (run_files r.prefix texts) texts.summary what old was now seen) (count r refl) s))
+stops_writing (gen g) outputs before texts what old seen was now count placed s =
+    stops_without_files (gen g) outputs before texts what old seen was now refl s
+stops_writing (check c) outputs before texts what old seen was now count placed s =
+    stops_without_files (check c) outputs before texts what old seen was now refl s
+stops_writing (firm f) outputs before texts what old seen was now count placed s =
+    stops_without_files (firm f) outputs before texts what old seen was now refl s
 
 -- a call on what is written was refused
 pub write_fault : (job : JobWords) (old mid new : Option Contents) (written : ToWrite) (w : AreToWrite job old written) (was b now : Place → ℕ) (what : Written)
@@ -313,16 +313,16 @@ nothing_given : (old new : Option Contents) (was now : ℕ) → GivesLine [] old
 nothing_given old new was now line = line.given ∙ ap (λ part. option_map (append_err part) old) (no_part line.part line.rest line.splits) ∙ err_none old
 
 -- a job that ended, and whose line was printed
-pub ended : (c : Command) (job : JobWords) (told : Option Contents) (mid : Place → ℕ) (ending : Ending) → c.job ≡ Some job
-    → NeverFall c.was mid → NeverFall mid c.now → IsEndOf job c.old c.was mid told ending
-    → GivesLine (line_of job ending) told c.new (mid ToErr) (c.now ToErr) → Means c ending
-ended c job told mid Done words start end is line =
-    (job, words, subst (λ (o : Option Contents). IsDone job c.old o) (sym (nothing_given told c.new (mid ToErr) (c.now ToErr) line)) is)
-ended c job told mid ending words start end is line =
+pub ended : (c : Command) (job : JobWords) (seen : Option Contents) (mid : Place → ℕ) (ending : Ending) → c.job ≡ Some job
+    → NeverFall c.was mid → NeverFall mid c.now → IsEndOf job c.old c.was mid seen ending
+    → GivesLine (line_of job ending) seen c.new (mid ToErr) (c.now ToErr) → Means c ending
+ended c job seen mid Done words start end is line =
+    (job, words, subst (λ (o : Option Contents). IsDone job c.old o) (sym (nothing_given seen c.new (mid ToErr) (c.now ToErr) line)) is)
+ended c job seen mid ending words start end is line =
     stopped c ending (record {
       job = job;
-      told = told;
+      seen = seen;
       words = words;
-      stops = Stops-wider job c.old c.was c.was mid c.now told ending (NeverFall-refl c.was) end is;
-      line = GivesLine-since (line_of job ending) told c.new (c.was ToErr) (mid ToErr) (c.now ToErr) (start ToErr) line;
+      stops = Stops-wider job c.old c.was c.was mid c.now seen ending (NeverFall-refl c.was) end is;
+      line = GivesLine-since (line_of job ending) seen c.new (c.was ToErr) (mid ToErr) (c.now ToErr) (start ToErr) line;
     })

@@ -23,15 +23,15 @@ use Rattle.switch_run.proofs.Stopping.{done, few_files, write_fault}
 
 -- what making the texts of a `gen` job answers, which reads nothing
 pub gen_makes : (g : GenJob) (old : Option Contents) (counts : Place → ℕ) (made : Result (JobTexts PacketPieces) Ending)
-    → IfOk made (λ texts. (told : Option Contents) → AreToWrite (gen g) told (to_write texts))
-    → IfErr made (λ ending. (told : Option Contents) (was now : Place → ℕ) → Stops (gen g) told was now told ending)
+    → IfOk made (λ texts. (seen : Option Contents) → AreToWrite (gen g) seen (to_write texts))
+    → IfErr made (λ ending. (seen : Option Contents) (was now : Place → ℕ) → Stops (gen g) seen was now seen ending)
     → Makes (gen g) old counts counts old made
 gen_makes g old counts (Ok texts) made stops =
-    record { runs = tt; told_is = refl; never_fall = NeverFall-refl counts; no_fault = NoneRose-refl counts; refused = tt; texts = made old; stops = tt }
+    record { runs = tt; new_is = refl; never_fall = NeverFall-refl counts; no_fault = NoneRose-refl counts; refused = tt; texts = made old; stops = tt }
 gen_makes g old counts (Err ending) made stops =
     record {
       runs = tt;
-      told_is = refl;
+      new_is = refl;
       never_fall = NeverFall-refl counts;
       no_fault = tt;
       refused = λ p none. refl;
@@ -48,27 +48,27 @@ few_texts job old (Ok texts) is =
 few_texts job old (Err ending) is = tt
 
 -- a job that stops ends so
-pub stopping_ends : (job : JobWords) (old told : Option Contents) (was now : Place → ℕ) (ending : Ending) → Stops job old was now told ending
-    → IsEndOf job old was now told ending
-stopping_ends job old told was now Done stops = absurd stops
-stopping_ends job old told was now ending stops = stops
+pub stopping_ends : (job : JobWords) (old seen : Option Contents) (was now : Place → ℕ) (ending : Ending) → Stops job old was now seen ending
+    → IsEndOf job old was now seen ending
+stopping_ends job old seen was now Done stops = absurd stops
+stopping_ends job old seen was now ending stops = stops
 
 -- a job that runs a switch and stops has another status than 0
-pub other_status : (job : JobWords) (old told : Option Contents) (was now : Place → ℕ) (ending : Ending) → RunsSwitch job
-    → Stops job old was now told ending → status_of ending ≡ 0 → ⊥
-other_status job old told was now Done runs stops same = stops
-other_status job old told was now Usage runs stops same = stops
-other_status job old told was now (Checked ending) runs stops same = subst RunsSwitch stops.is_check runs
-other_status job old told was now _ runs stops same = omega (arith, same)
+pub other_status : (job : JobWords) (old seen : Option Contents) (was now : Place → ℕ) (ending : Ending) → RunsSwitch job
+    → Stops job old was now seen ending → status_of ending ≡ 0 → ⊥
+other_status job old seen was now Done runs stops same = stops
+other_status job old seen was now Usage runs stops same = stops
+other_status job old seen was now (Checked ending) runs stops same = subst RunsSwitch stops.is_check runs
+other_status job old seen was now _ runs stops same = omega (arith, same)
 
 module _ (job : JobWords) (old mid new : Option Contents) (was between now : Place → ℕ) (texts : JobTexts PacketPieces)
     (m : Makes job old was between mid (Ok texts)) where
   -- the texts that were made were written: the job is done
   pub made_done : new ≡ option_map (λ c. append_out (string_bytes texts.summary) (put_files (all_shown left_of texts) c)) mid → IsDone job old new
-  made_done put = done job old (to_write texts) m.texts mid new m.told_is put
+  made_done put = done job old (to_write texts) m.texts mid new m.new_is put
 
   -- a call that wrote the texts that were made was refused
   pub made_write_fault : (what : Written)
       → StopsPutting texts.outputs (length texts.files.items) (all_shown left_of texts) (string_bytes texts.summary) what mid between now new
       → IsWriteFault job old was now new what
-  made_write_fault what stops = write_fault job old mid new (to_write texts) m.texts was between now what m.told_is m.never_fall stops
+  made_write_fault what stops = write_fault job old mid new (to_write texts) m.texts was between now what m.new_is m.never_fall stops

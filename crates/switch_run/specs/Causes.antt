@@ -55,10 +55,10 @@ Answers c status ending = (status ≡ status_of ending) × Means c ending
 abbrev pub AnswersUnlessOut : Command → ℕ → Ending → Type 0
 AnswersUnlessOut c status ending = Answers c status ending ⊎ Answers c status OutOfMemory
 
--- the words mean this job, the contents are told, and no count of refused reads of a file that it names rose
+-- the words mean this job, these contents were seen, and no count of refused reads of a file that it names rose
 pub record IsReadable (c : Command) (job : JobWords) (contents : Contents) : Type 0 where
   pub words : c.job ≡ Some job
-  pub told : c.old ≡ Some contents
+  pub seen : c.old ≡ Some contents
   pub reads : (r : ReadWords) (input : InputFile) → reads_of job ≡ Some r → IsInput r input
       → Rose (c.was (ReadOf (input_name r input))) (c.now (ReadOf (input_name r input))) → ⊥
 
@@ -75,10 +75,10 @@ pub record AreWritable (c : Command) (job : JobWords) : Type 0 where
   pub packets : (r : RunWords) → job ≡ run r → r.packets ≡ true → IsWritable c (packets_name r.prefix)
   pub out : Rose (c.was ToOut) (c.now ToOut) → ⊥
 
--- the words mean this check, the contents are told, and no count of refused reads of its file rose
+-- the words mean this check, these contents were seen, and no count of refused reads of its file rose
 pub record IsCheckable (c : Command) (job : CheckWords) (contents : Contents) : Type 0 where
   pub words : c.job ≡ Some (check job)
-  pub told : c.old ≡ Some contents
+  pub seen : c.old ≡ Some contents
   pub reads : Rose (c.was (ReadOf job.file)) (c.now (ReadOf job.file)) → ⊥
 
 -- Status 2 comes exactly where the words mean no job, want of memory aside; where the first word names no command, or there is

@@ -48,46 +48,46 @@ is_own (Some (check c)) name = bytes_eq name c.file
 is_own (Some (firm f)) name = bytes_eq name f.table || list_any (bytes_eq name) f.inputs
 
 -- A read of this file was refused. The files before it are there, and not too long.
-pub record IsReadFault (job : JobWords) (told : Option Contents) (was now : Place → ℕ) (input : InputFile) : Type 0 where
+pub record IsReadFault (job : JobWords) (seen : Option Contents) (was now : Place → ℕ) (input : InputFile) : Type 0 where
   pub words : ReadWords
   pub reads : reads_of job ≡ Some words
   pub known : IsInput words input
-  pub earlier : IfSome told (EarlierFit words input)
+  pub earlier : IfSome seen (EarlierFit words input)
   pub rose : Rose (was (ReadOf (input_name words input))) (now (ReadOf (input_name words input)))
 
 -- This file is too long. The files before it are there, and not too long.
-pub record IsFirstTooLong (job : JobWords) (told : Option Contents) (input : InputFile) : Type 0 where
+pub record IsFirstTooLong (job : JobWords) (seen : Option Contents) (input : InputFile) : Type 0 where
   pub words : ReadWords
   pub reads : reads_of job ≡ Some words
   pub known : IsInput words input
-  pub earlier : IfSome told (EarlierFit words input)
-  pub longer : IfSome told (IsTooLongFor words input)
+  pub earlier : IfSome seen (EarlierFit words input)
+  pub longer : IfSome seen (IsTooLongFor words input)
 
 -- The bytes of the table and the captures are refused.
-pub record IsRefused (job : JobWords) (told : Option Contents) (fault : PlanFault) : Type 0 where
+pub record IsRefused (job : JobWords) (seen : Option Contents) (fault : PlanFault) : Type 0 where
   pub table : List ℕ
   pub captures : List (List ℕ)
-  pub inputs : AreInputs job told table captures
+  pub inputs : AreInputs job seen table captures
   pub outcome : IsJobOutcome job table captures (Err fault)
 
 -- The journal of the run has more bytes than a journal file may have.
-pub record IsJournalTooLong (job : JobWords) (told : Option Contents) (size : ℕ) : Type 0 where
+pub record IsJournalTooLong (job : JobWords) (seen : Option Contents) (size : ℕ) : Type 0 where
   pub words : RunWords
   pub is_run : job ≡ run words
   pub wanted : words.journal ≡ true
   pub table : List ℕ
   pub captures : List (List ℕ)
-  pub inputs : AreInputs job told table captures
+  pub inputs : AreInputs job seen table captures
   pub longer : IsLongJournal (decision_named words.scheduler) words.settings table captures size
 
 -- The packets file of the run has more bytes than it may have, and the job is not long. A journal that is wanted has not.
-pub record IsPacketsTooLong (job : JobWords) (told : Option Contents) (size : ℕ) : Type 0 where
+pub record IsPacketsTooLong (job : JobWords) (seen : Option Contents) (size : ℕ) : Type 0 where
   pub words : RunWords
   pub is_run : job ≡ run words
   pub wanted : words.packets ≡ true
   pub table : List ℕ
   pub captures : List (List ℕ)
-  pub inputs : AreInputs job told table captures
+  pub inputs : AreInputs job seen table captures
   pub longer : IsLongPackets (decision_named words.scheduler) words.settings table captures size
   pub journal_fits : JournalFits words table captures
 
@@ -99,10 +99,10 @@ captures_made (check c) ports = 0
 captures_made (firm f) ports = 0
 
 -- The job makes these texts of the bytes of the table and the captures.
-pub record IsMade (job : JobWords) (told : Option Contents) (texts : Texts) : Type 0 where
+pub record IsMade (job : JobWords) (seen : Option Contents) (texts : Texts) : Type 0 where
   pub table : List ℕ
   pub captures : List (List ℕ)
-  pub inputs : AreInputs job told table captures
+  pub inputs : AreInputs job seen table captures
   pub outcome : IsJobOutcome job table captures (Ok texts)
   pub count : length texts.outputs ≡ captures_made job (length captures)
 
@@ -114,56 +114,56 @@ pub record IsDone (job : JobWords) (old new : Option Contents) : Type 0 where
   pub holds : IfSome old (λ c. IfSome new (HoldsTexts job texts c))
 
 -- A call on a file was refused: the files before it are whole, and the later ones as before.
-pub record StopsAtFile (job : JobWords) (texts : Texts) (place : ℕ) (old : Option Contents) (was now : Place → ℕ) (told : Option Contents) : Type 0 where
+pub record StopsAtFile (job : JobWords) (texts : Texts) (place : ℕ) (old : Option Contents) (was now : Place → ℕ) (new : Option Contents) : Type 0 where
   pub within : place < length (files_of job texts)
-  pub stops : StopsAt (slice_index_or (files_of job texts) place nameless) was now (option_map (put_files (take place (files_of job texts))) old) told
+  pub stops : StopsAt (slice_index_or (files_of job texts) place nameless) was now (option_map (put_files (take place (files_of job texts))) old) new
 
 -- A call on standard output was refused: all files are whole, and a first part of the summary was given to it.
-pub record StopsAtOut (job : JobWords) (texts : Texts) (old : Option Contents) (was now : Place → ℕ) (told : Option Contents) : Type 0 where
+pub record StopsAtOut (job : JobWords) (texts : Texts) (old : Option Contents) (was now : Place → ℕ) (new : Option Contents) : Type 0 where
   pub rose : Rose (was ToOut) (now ToOut)
   pub given : ℕ
-  pub told_is : told ≡ option_map (λ c. append_out (take given texts.summary) (put_files (files_of job texts) c)) old
+  pub new_is : new ≡ option_map (λ c. append_out (take given texts.summary) (put_files (files_of job texts) c)) old
 
 -- a call on what was being written was refused
 abbrev pub StopsWriting : JobWords → Texts → Written → Option Contents → (Place → ℕ) → (Place → ℕ) → Option Contents → Type 0
-StopsWriting job texts (Output port) old was now told = (port < length texts.outputs) × StopsAtFile job texts port old was now told
-StopsWriting job texts Report old was now told = StopsAtFile job texts (length texts.outputs) old was now told
-StopsWriting job texts Journal old was now told = (is_some texts.journal ≡ true) × StopsAtFile job texts (length texts.outputs + 1) old was now told
-StopsWriting job texts Packets old was now told = StopsAtFile job texts (packets_place (length texts.outputs) (is_some texts.journal)) old was now told
-StopsWriting job texts StandardOutput old was now told = StopsAtOut job texts old was now told
+StopsWriting job texts (Output port) old was now new = (port < length texts.outputs) × StopsAtFile job texts port old was now new
+StopsWriting job texts Report old was now new = StopsAtFile job texts (length texts.outputs) old was now new
+StopsWriting job texts Journal old was now new = (is_some texts.journal ≡ true) × StopsAtFile job texts (length texts.outputs + 1) old was now new
+StopsWriting job texts Packets old was now new = StopsAtFile job texts (packets_place (length texts.outputs) (is_some texts.journal)) old was now new
+StopsWriting job texts StandardOutput old was now new = StopsAtOut job texts old was now new
 
 -- The texts were made, and a call that wrote them was refused.
-pub record IsWriteFault (job : JobWords) (old : Option Contents) (was now : Place → ℕ) (told : Option Contents) (written : Written) : Type 0 where
+pub record IsWriteFault (job : JobWords) (old : Option Contents) (was now : Place → ℕ) (new : Option Contents) (written : Written) : Type 0 where
   pub texts : Texts
   pub made : IsMade job old texts
-  pub stops : StopsWriting job texts written old was now told
+  pub stops : StopsWriting job texts written old was now new
 
 -- The words name a file to check and a scheduler, and the file's check by that scheduler ends so.
-pub record IsCheck (job : JobWords) (old : Option Contents) (was now : Place → ℕ) (told : Option Contents) (ending : CheckEnding) : Type 0 where
+pub record IsCheck (job : JobWords) (old : Option Contents) (was now : Place → ℕ) (new : Option Contents) (ending : CheckEnding) : Type 0 where
   pub words : CheckWords
   pub is_check : job ≡ check words
-  pub means : MeansCheck (decision_named words.scheduler) words.file old told was now ending
+  pub means : MeansCheck (decision_named words.scheduler) words.file old new was now ending
 
 -- why a command stops before its end, and what it has made of the contents by then; or how a check ends
 abbrev pub Stops : JobWords → Option Contents → (Place → ℕ) → (Place → ℕ) → Option Contents → Ending → Type 0
-Stops job old was now told Done = ⊥
-Stops job old was now told Usage = ⊥
-Stops job old was now told (ReadFault input) = IsReadFault job old was now input × (told ≡ old)
-Stops job old was now told (TooLong input) = IsFirstTooLong job old input × (told ≡ old)
-Stops job old was now told (Refused fault) = IsRefused job old fault × (told ≡ old)
-Stops job old was now told (JournalTooLong size) = IsJournalTooLong job old size × (told ≡ old)
-Stops job old was now told (PacketsTooLong size) = IsPacketsTooLong job old size × (told ≡ old)
-Stops job old was now told OutOfMemory = told ≡ old
-Stops job old was now told (WriteFault written) = IsWriteFault job old was now told written
-Stops job old was now told (Checked ending) = IsCheck job old was now told ending
+Stops job old was now new Done = ⊥
+Stops job old was now new Usage = ⊥
+Stops job old was now new (ReadFault input) = IsReadFault job old was now input × (new ≡ old)
+Stops job old was now new (TooLong input) = IsFirstTooLong job old input × (new ≡ old)
+Stops job old was now new (Refused fault) = IsRefused job old fault × (new ≡ old)
+Stops job old was now new (JournalTooLong size) = IsJournalTooLong job old size × (new ≡ old)
+Stops job old was now new (PacketsTooLong size) = IsPacketsTooLong job old size × (new ≡ old)
+Stops job old was now new OutOfMemory = new ≡ old
+Stops job old was now new (WriteFault written) = IsWriteFault job old was now new written
+Stops job old was now new (Checked ending) = IsCheck job old was now new ending
 
 -- A job stopped, or a check ended, and then its line was given to standard error. Yes has no line.
 pub record IsStopped (c : Command) (ending : Ending) : Type 0 where
   pub job : JobWords
-  pub told : Option Contents
+  pub seen : Option Contents
   pub words : c.job ≡ Some job
-  pub stops : Stops job c.old c.was c.now told ending
-  pub line : GivesLine (line_of job ending) told c.new (c.was ToErr) (c.now ToErr)
+  pub stops : Stops job c.old c.was c.now seen ending
+  pub line : GivesLine (line_of job ending) seen c.new (c.was ToErr) (c.now ToErr)
 
 -- what each ending means
 abbrev pub Means : Command → Ending → Type 0

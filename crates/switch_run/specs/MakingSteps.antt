@@ -146,26 +146,26 @@ pub record AreNumbersOf (scheduler : Scheduler) (settings : Settings) (table : L
   pub ran : AreNumbers scheduler plan summary
 
 -- What a job is to write of inputs that are there.
-pub record AreToWrite (job : JobWords) (told : Option Contents) (written : ToWrite) : Type 0 where
+pub record AreToWrite (job : JobWords) (seen : Option Contents) (written : ToWrite) : Type 0 where
   pub table : List ℕ
   pub captures : List (List ℕ)
-  pub inputs : AreInputs job told table captures
+  pub inputs : AreInputs job seen table captures
   pub few : length captures ≤ MAX_PORTS
   pub made : AreMade job table captures written
 
 -- What making the texts of a job left and answered. Nothing was written and no count fell; where the texts are made none rose,
 -- and they are to be written, and where they are not the job stops, and none rose but those of its ending.
-pub record Makes (job : JobWords) (old : Option Contents) (was now : Place → ℕ) (told : Option Contents)
+pub record Makes (job : JobWords) (old : Option Contents) (was now : Place → ℕ) (new : Option Contents)
     (made : Result (JobTexts PacketPieces) Ending) : Type 0 where
   pub runs : RunsSwitch job
-  pub told_is : told ≡ old
+  pub new_is : new ≡ old
   pub never_fall : NeverFall was now
   pub no_fault : OnOk made (NoneRose was now)
   pub refused : IfErr made (λ ending. OnlyRose (refused_by ending) was now)
   pub texts : IfOk made (λ texts. AreToWrite job old (to_write texts))
-  pub stops : IfErr made (Stops job old was now told)
+  pub stops : IfErr made (Stops job old was now new)
 
 -- how a job ends: it is done and all is written, or it stops before that, or its check ends
 abbrev pub IsEndOf : JobWords → Option Contents → (Place → ℕ) → (Place → ℕ) → Option Contents → Ending → Type 0
-IsEndOf job old was now told Done = IsDone job old told
-IsEndOf job old was now told ending = Stops job old was now told ending
+IsEndOf job old was now new Done = IsDone job old new
+IsEndOf job old was now new ending = Stops job old was now new ending

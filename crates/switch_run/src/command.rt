@@ -1,5 +1,5 @@
-ghost use Rattle.std.specs.Prelude.{◌≡◌, ◌≤◌, ◌+◌, ℕ, List, Bool, Option, None, Some, length, map, string_bytes, IfOk};
-ghost use Rattle.outside.specs.Contents.{AreAlike, Contents, held};
+ghost use Rattle.std.specs.Prelude.{◌≡◌, ◌≤◌, ◌+◌, ℕ, Bool, Option, None, Some, length, map, string_bytes, IfOk};
+ghost use Rattle.outside.specs.Contents.{Contents, NoneRead, StayAlike, held};
 ghost use Rattle.outside.specs.Faults.{NeverFall, NoneRose, OnlyRose, Place};
 ghost use Rattle.job_files.specs.Statuses.{RefusedCallsEnd, refused_by, status_of};
 ghost use Rattle.switch_words.specs.Limits.{IsWithinLimits};
@@ -38,8 +38,7 @@ fn end_of_writing<F: Files>(made: Result<JobTexts<PacketPieces>, Ending>, files:
     ensures meaning { (c : Contents) (job : JobWords) (old : Option Contents) (was : Place → ℕ)
         → Makes job old was (F.faults files.old) (F.seen c files.old) made
         → IsEndOf job old was (F.faults files.new) (F.seen c files.new) result }
-    ensures own { (named : List ℕ → Bool) (c d : Contents) → AreAlike named (F.seen c files.old) (F.seen d files.old)
-        → AreAlike named (F.seen c files.new) (F.seen d files.new) }
+    ensures own { NoneRead F.seen files.old files.new }
     ensures no_fault { (c : Contents) (job : JobWords) (old : Option Contents) (was : Place → ℕ)
         → Makes job old was (F.faults files.old) (F.seen c files.old) made
         → status_of result ≡ 0 → NoneRose was (F.faults files.new) }
@@ -68,8 +67,7 @@ fn attempt<R: Threads + Sync, F: Files, G: Gate + Sync>(
     requires { IsWithinLimits job.now }
     ensures meaning { (c : Contents) → IsEndOf (job_words job.now) (held (F.seen c files.old) (F.seen c files.new)) (F.faults files.old)
         (F.faults files.new) (F.seen c files.new) result }
-    ensures own { (c d : Contents) → AreAlike (is_own (Some (job_words job.now))) (F.seen c files.old) (F.seen d files.old)
-        → AreAlike (is_own (Some (job_words job.now))) (F.seen c files.new) (F.seen d files.new) }
+    ensures own { StayAlike (is_own (Some (job_words job.now))) F.seen files.old files.new }
     ensures no_fault { status_of result ≡ 0 → NoneRose (F.faults files.old) (F.faults files.new) }
     ensures refused { OnlyRose (refused_by result) (F.faults files.old) (F.faults files.new) }
     ensures never_fall { NeverFall (F.faults files.old) (F.faults files.new) }
@@ -99,8 +97,7 @@ fn run<R: Threads + Sync, F: Files, G: Gate + Sync>(
       was = F.faults files.old;
       now = F.faults files.new;
     }) result }
-    ensures own { (c d : Contents) → AreAlike (is_own (Some (job_words job.now))) (F.seen c files.old) (F.seen d files.old)
-        → AreAlike (is_own (Some (job_words job.now))) (F.seen c files.new) (F.seen d files.new) }
+    ensures own { StayAlike (is_own (Some (job_words job.now))) F.seen files.old files.new }
     ensures no_fault { status_of result ≡ 0 → NoneRose (F.faults files.old) (F.faults files.new) }
     ensures refused { RefusedCallsEnd (F.faults files.old) (F.faults files.new) (status_of result) }
     ensures never_fall { NeverFall (F.faults files.old) (F.faults files.new) }
@@ -120,8 +117,7 @@ fn end_of<R: Threads + Sync, F: Files, G: Gate + Sync>(
 ) -> Ending
     ensures meaning { (c : Contents) → Means (command_of (map string_bytes words.now) (held (F.seen c files.old) (F.seen c files.new)) (F.seen c files.new)
         (F.faults files.old) (F.faults files.new)) result }
-    ensures own { (c d : Contents) → AreAlike (is_own (reading_of (map string_bytes words.now))) (F.seen c files.old) (F.seen d files.old)
-        → AreAlike (is_own (reading_of (map string_bytes words.now))) (F.seen c files.new) (F.seen d files.new) }
+    ensures own { StayAlike (is_own (reading_of (map string_bytes words.now))) F.seen files.old files.new }
     ensures unnamed { command_in (map string_bytes words.now) ≡ None → result ≡ Usage }
     ensures no_fault { status_of result ≡ 0 → NoneRose (F.faults files.old) (F.faults files.new) }
     ensures refused { RefusedCallsEnd (F.faults files.old) (F.faults files.new) (status_of result) }
@@ -205,8 +201,7 @@ pub fn switch_main<R: Threads + Sync, F: Files, G: Gate + Sync>(
 ) -> u8
     ensures theorem { (c : Contents) → SwitchTheorem (command_of (map string_bytes words.now) (held (F.seen c files.old) (F.seen c files.new))
         (F.seen c files.new) (F.faults files.old) (F.faults files.new)) result }
-    ensures own { (c d : Contents) → AreAlike (is_own (reading_of (map string_bytes words.now))) (F.seen c files.old) (F.seen d files.old)
-        → AreAlike (is_own (reading_of (map string_bytes words.now))) (F.seen c files.new) (F.seen d files.new) }
+    ensures own { StayAlike (is_own (reading_of (map string_bytes words.now))) F.seen files.old files.new }
 {
     deliveries::admitted_packets_are_delivered();
     waits::waiting_queues_are_served();

@@ -1,5 +1,5 @@
 ghost use Rattle.std.specs.Prelude.{◌≡◌, ℕ, Option, Some, IfErr, IfOk, OnOk};
-ghost use Rattle.outside.specs.Contents.{AreAlike, Contents, Stays, held};
+ghost use Rattle.outside.specs.Contents.{Contents, NoneChanged, StayAlike, held};
 ghost use Rattle.outside.specs.Faults.{NeverFall, NoneRose, OnlyRose, Place};
 ghost use Rattle.job_files.specs.Statuses.{refused_by, status_of};
 ghost use Rattle.switch_words.specs.Limits.{IsFirmWithinLimits, IsGenWithinLimits, IsRunWithinLimits};
@@ -45,9 +45,8 @@ pub(crate) fn texts_of_run<R: Threads + Sync, F: Files, G: Gate + Sync>(
     gate: &G,
 ) -> Result<JobTexts<PacketPieces>, Ending>
     requires { IsRunWithinLimits job.now }
-    ensures seen { (c : Contents) → Stays (F.seen c files.old) (F.seen c files.new) }
-    ensures own { (c d : Contents) → AreAlike (is_own (Some (run (run_words job.now)))) (F.seen c files.old) (F.seen d files.old)
-        → AreAlike (is_own (Some (run (run_words job.now)))) (F.seen c files.new) (F.seen d files.new) }
+    ensures seen { NoneChanged F.seen files.old files.new }
+    ensures own { StayAlike (is_own (Some (run (run_words job.now)))) F.seen files.old files.new }
     ensures no_fault { OnOk result (NoneRose (F.faults files.old) (F.faults files.new)) }
     ensures refused { IfErr result (λ ending. OnlyRose (refused_by ending) (F.faults files.old) (F.faults files.new)) }
     ensures never_fall { NeverFall (F.faults files.old) (F.faults files.new) }
@@ -74,8 +73,8 @@ pub(crate) fn texts_of_gen<R: Threads + Sync, G: Gate + Sync>(
     gate: &G,
 ) -> Result<JobTexts<PacketPieces>, Ending>
     requires { IsGenWithinLimits job.now }
-    ensures made { IfOk result (λ texts. (told : Option Contents) → AreToWrite (gen job.now) told (to_write texts)) }
-    ensures stops { IfErr result (λ ending. (told : Option Contents) (was now : Place → ℕ) → Stops (gen job.now) told was now told ending) }
+    ensures made { IfOk result (λ texts. (seen : Option Contents) → AreToWrite (gen job.now) seen (to_write texts)) }
+    ensures stops { IfErr result (λ ending. (seen : Option Contents) (was now : Place → ℕ) → Stops (gen job.now) seen was now seen ending) }
 {
     let inputs = made_inputs(alloc, job)?;
     let summary = summary_of_job(rt, alloc, &job.settings, job.scheduler, inputs, gate)?;
@@ -91,9 +90,8 @@ pub(crate) fn texts_of_firm<R: Threads + Sync, F: Files, G: Gate + Sync>(
     gate: &G,
 ) -> Result<JobTexts<PacketPieces>, Ending>
     requires { IsFirmWithinLimits job.now }
-    ensures seen { (c : Contents) → Stays (F.seen c files.old) (F.seen c files.new) }
-    ensures own { (c d : Contents) → AreAlike (is_own (Some (firm (firm_words job.now)))) (F.seen c files.old) (F.seen d files.old)
-        → AreAlike (is_own (Some (firm (firm_words job.now)))) (F.seen c files.new) (F.seen d files.new) }
+    ensures seen { NoneChanged F.seen files.old files.new }
+    ensures own { StayAlike (is_own (Some (firm (firm_words job.now)))) F.seen files.old files.new }
     ensures no_fault { OnOk result (NoneRose (F.faults files.old) (F.faults files.new)) }
     ensures refused { IfErr result (λ ending. OnlyRose (refused_by ending) (F.faults files.old) (F.faults files.new)) }
     ensures never_fall { NeverFall (F.faults files.old) (F.faults files.new) }
@@ -111,8 +109,7 @@ pub(crate) fn texts_of_firm<R: Threads + Sync, F: Files, G: Gate + Sync>(
 pub(crate) fn end_of_check<F: Files>(alloc: Global, job: &CheckJob, files: &mut F) -> Ending
     ensures meaning { (c : Contents) → IsEndOf (check (check_words job.now)) (held (F.seen c files.old) (F.seen c files.new)) (F.faults files.old)
         (F.faults files.new) (F.seen c files.new) result }
-    ensures own { (c d : Contents) → AreAlike (is_own (Some (check (check_words job.now)))) (F.seen c files.old) (F.seen d files.old)
-        → AreAlike (is_own (Some (check (check_words job.now)))) (F.seen c files.new) (F.seen d files.new) }
+    ensures own { StayAlike (is_own (Some (check (check_words job.now)))) F.seen files.old files.new }
     ensures no_fault { status_of result ≡ 0 → NoneRose (F.faults files.old) (F.faults files.new) }
     ensures refused { OnlyRose (refused_by result) (F.faults files.old) (F.faults files.new) }
     ensures never_fall { NeverFall (F.faults files.old) (F.faults files.new) }

@@ -57,8 +57,8 @@ pub fn one_thread_makes_no_difference()
 /// Whether a job is run long makes no difference where it can be run otherwise too: what it reads, the same job of the same
 /// depth reads when it is run long, and the texts that it makes of that are the same.
 pub fn long_makes_no_difference()
-    ensures inputs { (job : JobWords) (told : Option Contents) (table : List ℕ) (captures : List (List ℕ)) → AreInputs job told table captures
-        → AreInputs (with_long job) told table captures }
+    ensures inputs { (job : JobWords) (seen : Option Contents) (table : List ℕ) (captures : List (List ℕ)) → AreInputs job seen table captures
+        → AreInputs (with_long job) seen table captures }
     ensures texts { (job : JobWords) (table : List ℕ) (files : List (List ℕ)) (texts : Texts) → IsJobOutcome job table files (Ok texts)
         → IsJobOutcome (with_long job) table files (Ok texts) }
 {}

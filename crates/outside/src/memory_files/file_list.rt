@@ -1,4 +1,4 @@
-ghost use Rattle.std.specs.Prelude.{◌≡◌, ◌<◌, ◌⊎◌, ℕ, [], ◌++◌, true, None, Some, length, map, option_map, position, bytes_eq, IfOk, IfSome, OnOk, OnErr};
+ghost use Rattle.std.specs.Prelude.{◌≡◌, ◌<◌, ◌⊎◌, ℕ, [], ◌++◌, true, None, Some, length, option_map, position, bytes_eq, IfSome, OnOk, OnErr};
 ghost use Rattle.std.specs.Option.{option_copied};
 ghost use Rattle.outside.specs.Calls.{NamesFile};
 ghost use Rattle.outside.specs.MemoryFiles.{FileState, file_named, counts_at, CountsFault, HasNoRoom, PutsFile};

@@ -1,6 +1,6 @@
-use Rattle.std.proofs.Common.{◌≡◌, ◌≤◌, ℕ, List, Bool, length, ◌-◌, take}
+use Rattle.std.proofs.Common.{◌≡◌, ◌≤◌, length, ◌-◌, take}
 use Rattle.std.specs.Prelude.{option_map}
-use Rattle.outside.specs.Contents.{AreAlike, Contents, append_err}
+use Rattle.outside.specs.Contents.{Contents, NoneRead, append_err}
 use Rattle.outside.specs.Faults.{NeverFall, NoneRose}
 use Rattle.job_files.proofs.error_lines.give_bytes.Given as goal
 
@@ -10,8 +10,7 @@ invariant-loop-at g l =
     let counts = g.F.Files.faults in
     record {
       seen : (c : Contents) → see c l.files ≡ option_map (append_err (take l.at l.bytes)) (see c l.fn.files);
-      own : (named : List ℕ → Bool) (c d : Contents) → AreAlike named (see c l.fn.files) (see d l.fn.files)
-          → AreAlike named (see c l.files) (see d l.files);
+      own : NoneRead see l.fn.files l.files;
       no_fault : NoneRose (counts l.fn.files) (counts l.files);
       never_fall : NeverFall (counts l.fn.files) (counts l.files);
       within : l.at ≤ length l.bytes;

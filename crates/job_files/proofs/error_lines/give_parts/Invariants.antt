@@ -1,7 +1,7 @@
-use Rattle.std.proofs.Common.{◌≡◌, ℕ, List, Bool, map, take}
+use Rattle.std.proofs.Common.{◌≡◌, map, take}
 use Rattle.std.specs.Prelude.{option_map}
 use Rattle.std.specs.List.{concat}
-use Rattle.outside.specs.Contents.{AreAlike, Contents, append_err}
+use Rattle.outside.specs.Contents.{Contents, NoneRead, append_err}
 use Rattle.outside.specs.Faults.{NeverFall, OnlyRose, of_err}
 use Rattle.job_files.specs.LineParts.{part_text}
 use Rattle.job_files.proofs.error_lines.give_parts.Given as goal
@@ -12,8 +12,7 @@ invariant-loop-part g l =
     let counts = g.F.Files.faults in
     record {
       seen : (c : Contents) → see c l.files ≡ option_map (append_err (concat (map part_text (take l.part-index l.parts)))) (see c l.fn.files);
-      own : (named : List ℕ → Bool) (c d : Contents) → AreAlike named (see c l.fn.files) (see d l.fn.files)
-          → AreAlike named (see c l.files) (see d l.files);
+      own : NoneRead see l.fn.files l.files;
       no_others : OnlyRose of_err (counts l.fn.files) (counts l.files);
       never_fall : NeverFall (counts l.fn.files) (counts l.files);
     }

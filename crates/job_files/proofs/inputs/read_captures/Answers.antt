@@ -19,10 +19,10 @@ returns-in_err-capture-clause-stops g c d =
     (counts c.read_input.new.files) c.in_err-capture.field-0.0 c.loop-port.invariant.never_fall (c.in_err-capture.ensures.stops d))
 
 pub returns-in_err-capture-clause-own : goal.returns-in_err-capture-clause-own
-returns-in_err-capture-clause-own g c named d e all alike =
+returns-in_err-capture-clause-own g c named all d e alike =
     let inputs = (reads_words c.args.reads.now).inputs in
     let within : c.loop-port.port < length inputs = omega (arith, length-map c.args.reads.now.inputs.now string_bytes, c.loop-port-test.true) in
-    c.in_err-capture.ensures.own named d e (all c.loop-port.port [] within) (c.loop-port.invariant.own named d e all alike)
+    c.in_err-capture.ensures.own named (all c.loop-port.port [] within) d e (c.loop-port.invariant.own named all d e alike)
 
 pub loop-port-preserved : goal.loop-port-preserved
 loop-port-preserved g c =
@@ -34,7 +34,7 @@ loop-port-preserved g c =
     record {
       seen = λ d. Stays-trans (see d c.args.files.now) (see d c.loop-port.files) (see d c.read_input.new.files) (c.loop-port.invariant.seen d)
           (c.in_ok-capture.ensures.seen d);
-      own = λ named d e all alike. c.in_ok-capture.ensures.own named d e (all c.loop-port.port [] within) (c.loop-port.invariant.own named d e all alike);
+      own = λ named all d e alike. c.in_ok-capture.ensures.own named (all c.loop-port.port [] within) d e (c.loop-port.invariant.own named all d e alike);
       no_fault = λ p. c.in_ok-capture.ensures.no_fault p ∙ c.loop-port.invariant.no_fault p;
       never_fall = λ p. omega (arith, c.loop-port.invariant.never_fall p, c.in_ok-capture.ensures.never_fall p);
       room = omega (arith, c.read_input.auto.buf, c.loop-port.invariant.room);

@@ -1,6 +1,6 @@
 use Rattle.std.proofs.Common.{◌≡◌, ◌<◌, ℕ, List, Bool, true, length, take}
 use Rattle.std.specs.Prelude.{All, IfSome}
-use Rattle.outside.specs.Contents.{AreAlike, Contents, Stays}
+use Rattle.outside.specs.Contents.{Contents, NoneChanged, StayAlike}
 use Rattle.outside.specs.Faults.{NeverFall, NoneRose}
 use Rattle.job_files.specs.Inputs.{CapturesRead, EarlierFit}
 use Rattle.job_files.specs.FileSteps.{reads_words}
@@ -13,9 +13,8 @@ invariant-loop-port g l =
     let see = g.F.Files.seen in
     let counts = g.F.Files.faults in
     record {
-      seen : (c : Contents) → Stays (see c l.fn.files) (see c l.files);
-      own : (named : List ℕ → Bool) (c d : Contents) → All (λ name. named name ≡ true) (reads_words l.reads).inputs
-          → AreAlike named (see c l.fn.files) (see d l.fn.files) → AreAlike named (see c l.files) (see d l.files);
+      seen : NoneChanged see l.fn.files l.files;
+      own : (named : List ℕ → Bool) → All (λ name. named name ≡ true) (reads_words l.reads).inputs → StayAlike named see l.fn.files l.files;
       no_fault : NoneRose (counts l.fn.files) (counts l.files);
       never_fall : NeverFall (counts l.fn.files) (counts l.files);
       room : 0 < length l.buf;

@@ -18,12 +18,12 @@ returns-in_err-table-clause-stops g c d =
     rw (failed.1, failed.2) (c.in_err-table.ensures.stops d)
 
 pub returns-in_err-captures-clause-own : goal.returns-in_err-captures-clause-own
-returns-in_err-captures-clause-own g c named d e all alike =
-    c.in_err-captures.ensures.own named d e all.1 (c.in_ok-table.ensures.own named d e all.0 alike)
+returns-in_err-captures-clause-own g c named all d e alike =
+    c.in_err-captures.ensures.own named all.1 d e (c.in_ok-table.ensures.own named all.0 d e alike)
 
 pub returns-in_err-table-clause-own : goal.returns-in_err-table-clause-own
-returns-in_err-table-clause-own g c named d e all alike = c.in_err-table.ensures.own named d e all.0 alike
+returns-in_err-table-clause-own g c named all d e alike = c.in_err-table.ensures.own named all.0 d e alike
 
 pub returns-clause-own : goal.returns-clause-own
-returns-clause-own g c named d e all alike =
-    c.in_ok-captures.ensures.own named d e all.1 (c.in_ok-table.ensures.own named d e all.0 alike)
+returns-clause-own g c named all d e alike =
+    c.in_ok-captures.ensures.own named all.1 d e (c.in_ok-table.ensures.own named all.0 d e alike)

@@ -72,7 +72,7 @@ returns-in-Err-put_out-clause-err g c d =
       rose = NeverFall-Rose (counts old) (counts c.put_packets.new.files) (counts c.put_out.new.files) ToOut
           (λ p. omega (arith, c.put_all.ensures.never_fall p, c.put_packets.ensures.never_fall p)) c.in-Err-put_out.ensures.cause;
       given = stops.0;
-      told_is = put_and_given (map shown texts.files.items) (pieced g.P.Pieces.left texts.packets) (take stops.0 c.as_bytes.result.now)
+      new_is = put_and_given (map shown texts.files.items) (pieced g.P.Pieces.left texts.packets) (take stops.0 c.as_bytes.result.now)
           (take stops.0 (string_bytes texts.summary)) (see old) (see c.put_all.new.files) (see c.put_packets.new.files) (see c.put_out.new.files)
           (ap (take stops.0) (c.as_bytes.ensures.value ∙ c.as_str.ensures.value)) put packed stops.1;
     }

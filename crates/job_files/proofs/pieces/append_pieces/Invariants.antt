@@ -1,6 +1,6 @@
-use Rattle.std.proofs.Common.{◌≡◌, ◌≤◌, ◌+◌, ◌-◌, ◌++◌, List, ℕ, Bool, [], length, true}
+use Rattle.std.proofs.Common.{◌≡◌, ◌≤◌, ◌+◌, ◌-◌, ◌++◌, List, ℕ, [], length, true}
 use Rattle.std.specs.Prelude.{option_map, IfSome}
-use Rattle.outside.specs.Contents.{AreAlike, Contents, append_file}
+use Rattle.outside.specs.Contents.{Contents, NoneRead, append_file}
 use Rattle.outside.specs.Faults.{NeverFall, NoneRose}
 use Rattle.job_files.proofs.Piecewise.{rest}
 use Rattle.job_files.proofs.pieces.append_pieces.Given as goal
@@ -13,8 +13,7 @@ invariant-loop-at g l =
     record {
       done : List ℕ;
       seen : (c : Contents) → see c l.files ≡ option_map (append_file l.name done) (see c l.fn.files);
-      own : (named : List ℕ → Bool) (c d : Contents) → AreAlike named (see c l.fn.files) (see d l.fn.files)
-          → AreAlike named (see c l.files) (see d l.files);
+      own : NoneRead see l.fn.files l.files;
       text : left l.fn.pieces ≡ done ++ (rest l.buf l.at l.end ++ left l.pieces);
       last : l.end ≤ l.at → left l.pieces ≡ [];
       no_fault : NoneRose (counts l.fn.files) (counts l.files);

@@ -1,6 +1,6 @@
-use Rattle.std.proofs.Common.{◌≡◌, ◌≤◌, ℕ, List, Bool, length, ◌-◌, take, true}
+use Rattle.std.proofs.Common.{◌≡◌, ◌≤◌, length, ◌-◌, take, true}
 use Rattle.std.specs.Prelude.{option_map, IfSome}
-use Rattle.outside.specs.Contents.{AreAlike, Contents, append_file}
+use Rattle.outside.specs.Contents.{Contents, NoneRead, append_file}
 use Rattle.outside.specs.Faults.{NeverFall, NoneRose}
 use Rattle.outside.proofs.whole_file.append_all.Given as goal
 
@@ -9,8 +9,7 @@ invariant-loop-at g l =
     let counts = g.F.Files.faults in
     record {
       seen : (c : Contents) → g.F.Files.seen c l.files ≡ option_map (append_file l.name (take l.at l.bytes)) (g.F.Files.seen c l.fn.files);
-      own : (named : List ℕ → Bool) (c d : Contents) → AreAlike named (g.F.Files.seen c l.fn.files) (g.F.Files.seen d l.fn.files)
-          → AreAlike named (g.F.Files.seen c l.files) (g.F.Files.seen d l.files);
+      own : NoneRead g.F.Files.seen l.fn.files l.files;
       no_fault : NoneRose (counts l.fn.files) (counts l.files);
       never_fall : NeverFall (counts l.fn.files) (counts l.files);
       within : l.at ≤ length l.bytes;

@@ -30,7 +30,7 @@ loop-count-preserved g c =
     record {
       seen = λ d. Stays-trans (see d c.args.files.now) (see d c.loop-count.files) (see d c.read.new.self) (c.loop-count.invariant.seen d)
           (c.in_ok-count.ensures.seen d);
-      own = λ named d e is alike. c.in_ok-count.ensures.own named d e is (c.loop-count.invariant.own named d e is alike);
+      own = λ named is d e alike. c.in_ok-count.ensures.own named is d e (c.loop-count.invariant.own named is d e alike);
       no_fault = λ p. c.in_ok-count.ensures.no_fault p ∙ c.loop-count.invariant.no_fault p;
       never_fall = λ p. omega (arith, c.loop-count.invariant.never_fall p, c.in_ok-count.ensures.never_fall p);
       most = rw e (omega arith);

@@ -25,7 +25,7 @@ returns-in-Run g c =
     let mid = c.texts_of_run.new.files in
     let left = c.end_of_writing.new.files in
     let makes : (d : Contents) → Makes job (see d mid) (counts was) (counts mid) (see d mid) c.texts_of_run.result = λ d.
-    record { runs = tt; told_is = refl; never_fall = is.never_fall; no_fault = is.no_fault; refused = is.refused; texts = is.made d; stops = is.stops d } in
+    record { runs = tt; new_is = refl; never_fall = is.never_fall; no_fault = is.no_fault; refused = is.refused; texts = is.made d; stops = is.stops d } in
     record {
       meaning = λ d. rw c.in-Run.is
           (held_end job (see d was) (see d mid) (see d left) (counts was) (counts left) c.end_of_writing.result tt (is.seen d)
@@ -85,7 +85,7 @@ returns-in-Firm g c =
     let mid = c.texts_of_firm.new.files in
     let left = c.end_of_writing-in-Firm.new.files in
     let makes : (d : Contents) → Makes job (see d mid) (counts was) (counts mid) (see d mid) c.texts_of_firm.result = λ d.
-    record { runs = tt; told_is = refl; never_fall = is.never_fall; no_fault = is.no_fault; refused = is.refused; texts = is.made d; stops = is.stops d } in
+    record { runs = tt; new_is = refl; never_fall = is.never_fall; no_fault = is.no_fault; refused = is.refused; texts = is.made d; stops = is.stops d } in
     record {
       meaning = λ d. rw c.in-Firm.is
           (held_end job (see d was) (see d mid) (see d left) (counts was) (counts left) c.end_of_writing-in-Firm.result tt (is.seen d)

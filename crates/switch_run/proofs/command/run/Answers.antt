@@ -12,17 +12,17 @@ returns-clause-meaning g c d named =
     let counts = g.F.Files.faults in
     let job = job_words c.args.job.now in
     let mid = c.attempt-ending.new.files in
-    let line = c.print_line.ensures.line d in
+    let line = c.print_line.ensures.prints.line d in
     let is = held_before_line job _ (see c.args.files.now) (see mid) (see c.print_line.new.files) (counts c.args.files.now) (counts mid) _ _
     c.attempt-ending.result line (c.attempt-ending.ensures.meaning d) in
-    ended _ job (see mid) (counts mid) c.attempt-ending.result refl c.attempt-ending.ensures.never_fall c.print_line.ensures.never_fall is line
+    ended _ job (see mid) (counts mid) c.attempt-ending.result refl c.attempt-ending.ensures.never_fall c.print_line.ensures.prints.never_fall is line
 
 pub returns-clause-no_fault : goal.returns-clause-no_fault
 returns-clause-no_fault g c same p = c.print_line.ensures.no_fault same p ∙ c.attempt-ending.ensures.no_fault same p
 
 pub returns-clause-refused : goal.returns-clause-refused
-returns-clause-refused g c = refused_calls_end c.attempt-ending.result _ _ _ c.attempt-ending.ensures.refused c.print_line.ensures.no_others
+returns-clause-refused g c = refused_calls_end c.attempt-ending.result _ _ _ c.attempt-ending.ensures.refused c.print_line.ensures.prints.no_others
 
 pub returns-clause-own : goal.returns-clause-own
 returns-clause-own g c d e alike =
-    c.print_line.ensures.own (is_own (Some (job_words c.args.job.now))) d e (c.attempt-ending.ensures.own d e alike)
+    c.print_line.ensures.prints.own (is_own (Some (job_words c.args.job.now))) d e (c.attempt-ending.ensures.own d e alike)

@@ -18,9 +18,9 @@ returns-in_default-clause-no_fault g c same = c.check_file.ensures.no_fault (che
 pub returns-in_default-clause-own : goal.returns-in_default-clause-own
 returns-in_default-clause-own g c d e alike =
     let words = check_words c.args.job.now in
-    c.check_file.ensures.own (is_own (Some (check words))) d e (rw c.as_str.ensures.value (check_owns words)) alike
+    c.check_file.ensures.own (is_own (Some (check words))) (rw c.as_str.ensures.value (check_owns words)) d e alike
 
 pub returns-in-OutOfMemory-clause-own : goal.returns-in-OutOfMemory-clause-own
 returns-in-OutOfMemory-clause-own g c d e alike =
     let words = check_words c.args.job.now in
-    c.check_file.ensures.own (is_own (Some (check words))) d e (rw c.as_str.ensures.value (check_owns words)) alike
+    c.check_file.ensures.own (is_own (Some (check words))) (rw c.as_str.ensures.value (check_owns words)) d e alike

@@ -63,19 +63,19 @@ returns-clause-made g c d =
 pub returns-in_err-inputs-clause-own : goal.returns-in_err-inputs-clause-own
 returns-in_err-inputs-clause-own g c d e alike =
     let words = firm_words c.args.job.now in
-    c.read_inputs.ensures.own (is_own (Some (firm words))) d e (firm_owns words _ c.reads_of_firm.ensures.names) alike
+    c.read_inputs.ensures.own (is_own (Some (firm words))) (firm_owns words _ c.reads_of_firm.ensures.names) d e alike
 
 pub returns-in_err-summary-clause-own : goal.returns-in_err-summary-clause-own
 returns-in_err-summary-clause-own g c d e alike =
     let words = firm_words c.args.job.now in
-    c.read_inputs.ensures.own (is_own (Some (firm words))) d e (firm_owns words _ c.reads_of_firm.ensures.names) alike
+    c.read_inputs.ensures.own (is_own (Some (firm words))) (firm_owns words _ c.reads_of_firm.ensures.names) d e alike
 
 pub returns-in_err-summary_alone-clause-own : goal.returns-in_err-summary_alone-clause-own
 returns-in_err-summary_alone-clause-own g c d e alike =
     let words = firm_words c.args.job.now in
-    c.read_inputs.ensures.own (is_own (Some (firm words))) d e (firm_owns words _ c.reads_of_firm.ensures.names) alike
+    c.read_inputs.ensures.own (is_own (Some (firm words))) (firm_owns words _ c.reads_of_firm.ensures.names) d e alike
 
 pub returns-clause-own : goal.returns-clause-own
 returns-clause-own g c d e alike =
     let words = firm_words c.args.job.now in
-    c.read_inputs.ensures.own (is_own (Some (firm words))) d e (firm_owns words _ c.reads_of_firm.ensures.names) alike
+    c.read_inputs.ensures.own (is_own (Some (firm words))) (firm_owns words _ c.reads_of_firm.ensures.names) d e alike

@@ -11,11 +11,11 @@ pub returns-in_err-summary-clause-stops : goal.returns-in_err-summary-clause-sto
 returns-in_err-summary-clause-stops g c =
     let failed = err_from_is_err_and c.from_residual-in_err-summary.result c.from_residual-in_err-summary.ensures.1 in
     rw (failed.1, failed.2)
-    (λ told was now. plan_stops (gen c.args.job.now) told told was now _ _ c.in_err-summary.field-0.0 refl
+    (λ seen was now. plan_stops (gen c.args.job.now) seen seen was now _ _ c.in_err-summary.field-0.0 refl
     (c.in_ok-inputs.ensures.table, c.in_ok-inputs.ensures.captures) c.in_err-summary.ensures.stops)
 
 pub returns-clause-made : goal.returns-clause-made
-returns-clause-made g c told =
+returns-clause-made g c seen =
     let inputs = c.in_ok-inputs.inputs in
     let texts = c.in_ok-summary_alone.field-0 in
     record {

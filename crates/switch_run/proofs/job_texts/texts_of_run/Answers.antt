@@ -62,19 +62,19 @@ returns-clause-made g c d =
 pub returns-in_err-inputs-clause-own : goal.returns-in_err-inputs-clause-own
 returns-in_err-inputs-clause-own g c d e alike =
     let words = run_words c.args.job.now in
-    c.read_inputs.ensures.own (is_own (Some (run words))) d e (run_owns words _ c.reads_of_run.ensures.names) alike
+    c.read_inputs.ensures.own (is_own (Some (run words))) (run_owns words _ c.reads_of_run.ensures.names) d e alike
 
 pub returns-in_err-ran-clause-own : goal.returns-in_err-ran-clause-own
 returns-in_err-ran-clause-own g c d e alike =
     let words = run_words c.args.job.now in
-    c.read_inputs.ensures.own (is_own (Some (run words))) d e (run_owns words _ c.reads_of_run.ensures.names) alike
+    c.read_inputs.ensures.own (is_own (Some (run words))) (run_owns words _ c.reads_of_run.ensures.names) d e alike
 
 pub returns-in_err-run_texts-clause-own : goal.returns-in_err-run_texts-clause-own
 returns-in_err-run_texts-clause-own g c d e alike =
     let words = run_words c.args.job.now in
-    c.read_inputs.ensures.own (is_own (Some (run words))) d e (run_owns words _ c.reads_of_run.ensures.names) alike
+    c.read_inputs.ensures.own (is_own (Some (run words))) (run_owns words _ c.reads_of_run.ensures.names) d e alike
 
 pub returns-clause-own : goal.returns-clause-own
 returns-clause-own g c d e alike =
     let words = run_words c.args.job.now in
-    c.read_inputs.ensures.own (is_own (Some (run words))) d e (run_owns words _ c.reads_of_run.ensures.names) alike
+    c.read_inputs.ensures.own (is_own (Some (run words))) (run_owns words _ c.reads_of_run.ensures.names) d e alike

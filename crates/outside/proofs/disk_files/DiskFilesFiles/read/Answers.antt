@@ -13,7 +13,7 @@ returns-in-Ok-clause-piece g c held =
     rw noted (agreeing_GivesPiece c.args.name.now c.args.at room c.read_at.new.buf c.in-Ok.count (seen old.calls held) short)
 
 pub returns-in-Ok-clause-own : goal.returns-in-Ok-clause-own
-returns-in-Ok-clause-own g c named a b is alike =
+returns-in-Ok-clause-own g c named is a b alike =
     let old = c.args.self.now in
     let room = length c.args.buf.now in
     let piece = take c.in-Ok.count c.read_at.new.buf in
