@@ -1,33 +1,18 @@
--- Bytes that are put into a slice, one piece after the other.
-use Rattle.std.proofs.Common.{◌≡◌, ◌↔◌, ◌∙◌, ℕ, ◌+◌, ◌<◌, ◌≤◌, List, [], ◌∷◌, ◌++◌, length, take, refl, sym, ap, arith}
-use Rattle.std.proofs.Common.{true, if◌then◌else◌, slice_index_or, append_assoc, length-append, length-take}
+-- Bytes that are put into a slice, one piece before the other, and a file that is given piece by piece.
+use Rattle.std.proofs.Common.{◌≡◌, ◌↔◌, ◌∙◌, ℕ, ◌+◌, ◌≤◌, List, [], ◌++◌, length, take, drop, sym, ap, arith}
+use Rattle.std.proofs.Common.{true, if◌then◌else◌, append_assoc, length-append, length-take}
 use Rattle.std.specs.List.{flat_map}
-use Rattle.std.proofs.lemmas.List.{append-nil, take_more}
-use Rattle.std.proofs.lemmas.List.Concat.{flat_map-append}
 use Rattle.packet_times.specs.Rows.{row_text, header}
 use Rattle.packet_times.specs.KeptSteps.{Pieces, left, rows_left}
-use Rattle.packet_times.specs.PuttingSteps.{IsPut}
+use Rattle.packet_times.specs.PuttingSteps.{IsPutBefore}
 
--- no bytes
-pub put-none : (old : List ℕ) (at : ℕ) → at ≤ length old → IsPut old at [] old at
-put-none old at few = record { long = refl; place = omega arith; inside = few; text = sym (append-nil (take at old)) }
-
--- and bytes after those that were put
-pub put-then : (old mid new a b : List ℕ) (at m end : ℕ) → IsPut old at a mid m → IsPut mid m b new end → IsPut old at (a ++ b) new end
-put-then old mid new a b at m end first next = record {
-  long = next.long ∙ first.long;
-  place = omega (arith, next.place, first.place, length-append a b);
-  inside = next.inside;
-  text = next.text ∙ ap (λ s. s ++ b) first.text ∙ append_assoc (take at old) a b;
+-- bytes before those that were put
+pub before-then : (old mid new a b : List ℕ) (end m at : ℕ) → IsPutBefore old end a mid m → IsPutBefore mid m b new at
+    → IsPutBefore old end (b ++ a) new at
+before-then old mid new a b end m at first next = record {
+  place = omega (arith, first.place, next.place, length-append b a);
+  text = next.text ∙ ap (λ s. b ++ s) first.text ∙ sym (append_assoc b a (drop end old));
 }
-
--- the pieces of a list, and one more
-pub pieces-more : {X : Type 0} (f : X → List ℕ) (xs : List X) (i : ℕ) (d : X) → i < length xs
-    → flat_map f (take i xs) ++ f (slice_index_or xs i d) ≡ flat_map f (take (i + 1) xs)
-pieces-more f xs i d inside =
-    let x = slice_index_or xs i d in
-    sym (ap (flat_map f) (take_more xs i d inside) ∙ flat_map-append f (take i xs) (x ∷ [])
-    ∙ ap (λ s. flat_map f (take i xs) ++ s) (append-nil (f x)))
 
 -- ---- a file that is given piece by piece
 -- where the header was given, the rows are left

@@ -1,24 +1,33 @@
 -- The texts of rows.
-use Rattle.std.proofs.Common.{◌≡◌, ◌∙◌, ◌+◌, ℕ, List, [], ◌∷◌, ◌++◌, map, length, sym, ap, arith, append_assoc, length-append}
-use Rattle.std.specs.Prelude.{codes, decimal, Option, Some, None, Result, Ok, SomeIff}
+use Rattle.std.proofs.Common.{◌≡◌, ◌∙◌, ◌+◌, ℕ, List, [], ◌∷◌, ◌++◌, length, sym, ap, arith, append_assoc, length-append}
+use Rattle.std.specs.Prelude.{codes, Option, Some, None, Result, Ok, SomeIff}
 use Rattle.std.specs.List.{flat_map, join_with_byte}
 use Rattle.std.specs.Result.{result_ok}
 use Rattle.std.proofs.lemmas.List.{append-nil}
+use Rattle.std.proofs.lemmas.List.Concat.{flat_map-append}
 use Rattle.std.proofs.lemmas.Option.{none-some, same_Some}
 use Rattle.rotating_pick.specs.declared.memory.OutOfMemory.{OutOfMemory}
-use Rattle.packet_times.specs.declared.fields.Field.{Field}
 use Rattle.packet_times.specs.Rows.{row_text}
-use Rattle.packet_times.specs.FieldSteps.{field_text, after_comma}
+use Rattle.packet_times.specs.PuttingSteps.{with_commas}
 
-join-commas : (word : List ℕ) (fields : List Field) → join_with_byte 44 (word ∷ map field_text fields) ≡ word ++ flat_map after_comma fields
+join-commas : (word : List ℕ) (fields : List (List ℕ)) → join_with_byte 44 (word ∷ fields) ≡ word ++ with_commas fields
 join-commas word [] = sym (append-nil word)
-join-commas word (field ∷ fields) = ap (λ s. word ++ (44 ∷ s)) (join-commas (field_text field) fields)
+join-commas word (field ∷ fields) = ap (λ s. word ++ (44 ∷ s)) (join-commas field fields)
 
 -- a row of its pieces
-pub row-pieces : (input : ℕ) (fields : List Field)
-    → (decimal input ++ flat_map after_comma fields) ++ codes "\n" ≡ row_text (decimal input ∷ map field_text fields)
+row-pieces : (word : List ℕ) (fields : List (List ℕ)) → word ++ (with_commas fields ++ codes "\n") ≡ row_text (word ∷ fields)
 unfolding row_text
-row-pieces input fields = ap (λ s. s ++ codes "\n") (sym (join-commas (decimal input) fields))
+row-pieces word fields =
+    sym (append_assoc word (with_commas fields) (codes "\n")) ∙ ap (λ s. s ++ codes "\n") (sym (join-commas word fields))
+
+-- of the number of its input, and two parts of its fields
+pub row-parts : (word : List ℕ) (first rest : List (List ℕ))
+    → word ++ (with_commas first ++ (with_commas rest ++ codes "\n")) ≡ row_text (word ∷ (first ++ rest))
+row-parts word first rest =
+    ap (λ s. word ++ s)
+    (sym (append_assoc (with_commas first) (with_commas rest) (codes "\n"))
+    ∙ ap (λ s. s ++ codes "\n") (sym (flat_map-append (λ (field : List ℕ). 44 ∷ field) first rest)))
+    ∙ row-pieces word (first ++ rest)
 
 -- a sum that is answered
 pub sum-is : (sum : Option ℕ) (Fits : Type 0) (value len : ℕ) (r : Result ℕ OutOfMemory) → SomeIff sum Fits value → sum ≡ result_ok r → r ≡ Ok len → len ≡ value

@@ -67,11 +67,12 @@ impl PacketRows {
         ensures end { result ≡ 0 ↔ left self.old ≡ [] }
     {
         let mut at = self.put_header(buf);
+        let mut line = [0; MOST_ROW_BYTES];
         while buf.len() - at >= MOST_ROW_BYTES {
             let Some(row) = self.times.next_row(&mut self.walk) else {
                 break;
             };
-            at = put_row(buf, at, &row);
+            at = put_row(buf, at, &mut line, &row);
         }
         at
     }

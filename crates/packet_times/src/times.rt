@@ -9,7 +9,7 @@ ghost use Rattle.packet_times.specs.NotingSteps.{HasNoted};
 ghost use Rattle.packet_times.specs.KeptSteps.{kept_ports};
 
 use crate::ends::{FlowEnds, no_ends, note_ends};
-use crate::fields::{MOST_ROW_BYTES, put_row};
+use crate::fields::{MOST_ROW_BYTES, put_line};
 use crate::inputs::{Input, inputs_of, note_inputs};
 use crate::walk::Walk;
 use crossbar::Post;
@@ -91,11 +91,11 @@ impl PacketTimes {
             → IfOk result (λ len. len ≡ length (packets_text_under scheduler plan slots)) }
     {
         let mut len = HEADER.len() as u64;
-        let mut bytes = [0; MOST_ROW_BYTES];
+        let mut line = [0; MOST_ROW_BYTES];
         let mut walk = Walk::at(0);
         while let Some(row) = self.next_row(&mut walk) {
-            let more = put_row(&mut bytes, 0, &row) as u64;
-            len = len.checked_add(more).ok_or(OutOfMemory)?;
+            let more = MOST_ROW_BYTES - put_line(&mut line, &row);
+            len = len.checked_add(more as u64).ok_or(OutOfMemory)?;
         }
         Ok(len)
     }

@@ -6,9 +6,9 @@ ghost use Rattle.packet_times.specs.FieldSteps.{texts_of};
 ghost use Rattle.packet_times.specs.KeptSteps.{is_flow, begun, kept_departure, kept_state, kept_row, walk_at, kept_outcome, passed, rows_left};
 
 use crate::ends::place_of_flow;
-use crate::fields::Row;
+use crate::fields::{Leaving, Row};
 use crate::going::{MOST_FLOWS, count_at, count_packet, place_of_own};
-use crate::rows::{aside_fields, kind_of, routed_fields, state_of};
+use crate::rows::kind_of;
 use crate::times::PacketTimes;
 use card_core::Planned;
 use rotating_pick::{LEVELS, MAX_PORTS, Ports, is_empty, lowest, without};
@@ -107,20 +107,10 @@ impl PacketTimes {
         requires { output < MAX_PORTS }
         ensures { texts_of result ≡ kept_row self.now counts.now outcome.now.input outcome.now.number outcome.now.packet outcome.now.admitted output }
     {
-        let packet = &outcome.packet;
         let departure = self.departure(counts, outcome, output);
-        let state = state_of(packet, outcome.admitted);
-        let kind = kind_of(packet.fan);
         Row {
-            input: outcome.input,
-            fields: routed_fields(
-                outcome.number as u64,
-                packet,
-                state,
-                kind,
-                output,
-                departure,
-            ),
+            outcome: *outcome,
+            leaving: Some(Leaving { output, departure }),
         }
     }
 
@@ -174,9 +164,8 @@ impl PacketTimes {
 fn aside(outcome: &Outcome) -> Row
     ensures { texts_of result ≡ aside_row outcome.now.input outcome.now.number outcome.now.packet (kept_state outcome.now.packet outcome.now.admitted) }
 {
-    let state = state_of(&outcome.packet, outcome.admitted);
     Row {
-        input: outcome.input,
-        fields: aside_fields(outcome.number as u64, &outcome.packet, state),
+        outcome: *outcome,
+        leaving: None,
     }
 }

@@ -1,4 +1,4 @@
-use Rattle.std.proofs.Common.{◌≡◌, ◌∙◌, ◌+◌, ℕ, List, length, sym, ap, arith, add-zero, length-append}
+use Rattle.std.proofs.Common.{◌≡◌, ◌∙◌, ◌+◌, ◌-◌, ℕ, List, length, sym, ap, arith, add-zero, length-append, length-drop}
 use Rattle.std.specs.List.{flat_map}
 use Rattle.packet_times.specs.declared.walk.Walk.{Walk}
 use Rattle.packet_times.specs.Rows.{row_text, header}
@@ -19,10 +19,12 @@ loop-row-smaller c = omega (arith, ap length c.in-Some.ensures.some)
 pub loop-row-preserved : goal.loop-row-preserved
 loop-row-preserved c =
     let len = c.loop-row.len in
-    let more = c.put_row-more.result in
+    let begin = c.put_line-more.result in
+    let more : ℕ = 256 - begin in
+    let long = ap length c.put_line-more.ensures.text in
     let sum : c.in_ok-len.len ≡ len + more =
     sum-is c.checked_add.result _ (len + more) c.in_ok-len.len c.ok_or.result c.checked_add.ensures c.ok_or.ensures.ok_part c.in_ok-len.was in
-    row-counted _ len more _ _ _ c.loop-row.invariant c.in-Some.ensures.some (omega (arith, c.put_row-more.ensures.place))
+    row-counted _ len more _ _ _ c.loop-row.invariant c.in-Some.ensures.some (omega (arith, long, length-drop begin c.put_line-more.new.line))
     ∙ ap (λ (n : ℕ). n + length (flat_map row_text (rows_left c.args.self.now c.next_row.new.walk))) (sym sum)
 
 pub returns : goal.returns

@@ -1,6 +1,6 @@
 use Rattle.packet_times.specs.Rows.{aside_row}
-use Rattle.packet_times.proofs.rows.aside_fields.Goals as goal
+use Rattle.packet_times.proofs.walk.aside.Goals as goal
 
 pub returns : goal.returns
 unfolding aside_row
-returns c input = cc
+returns c = cc
