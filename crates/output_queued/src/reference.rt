@@ -5,6 +5,7 @@ ghost use Rattle.rotating_pick.specs.declared.limits.TheConstants.{LEVELS, MAX_P
 ghost use Rattle.card_core.specs.declared.limits.TheConstants.{MAX_SLOTS};
 ghost use Rattle.slot_match.specs.Matches.{unmatched, fed_of, Serves, IsMatch};
 ghost use Rattle.slot_match.specs.Rows.{Names, row_of as row_in};
+ghost use Rattle.slot_match.specs.declared.rows.Row.{Row as ARow};
 ghost use Rattle.card_core.specs.StateSteps.{row_of};
 ghost use Rattle.output_queued.specs.Switches.{Matched, card_for, IsSwitch, IsSmallSwitch};
 ghost use Rattle.output_queued.specs.Lines.{ideal, ran, line_of};
@@ -135,6 +136,16 @@ impl Reference {
     {
         // Only the contract speaks of the rows.
         let _ = rows;
+        self.note_match(matched);
+    }
+
+    /// Notes the next slot, from slot 0 on, by the run's match alone, where it may be noted with some rows. There are fewer
+    /// than 2^32 slots.
+    pub fn note_match(&mut self, matched: &Match)
+        requires { (rows : List ARow) × MayNote self.old rows matched.now }
+        ensures switch { SameSwitch self.old self.new }
+        ensures noted { (matches : List Matched) → HasNoted self.old matches → HasNoted self.new (matches ++ matched.now ∷ []) }
+    {
         let unserved = count_slot(&mut self.tallies, self.unserved, self.slots, matched);
         take_served(&mut self.inputs, matched, &mut self.parts);
         self.slots += 1;
