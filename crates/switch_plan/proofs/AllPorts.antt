@@ -1,69 +1,20 @@
--- What the packets of all ports bring to an output, one port after the other, and the cards that are made of it.
-use Rattle.std.proofs.Common.{◌≡◌, ◌∙◌, ℕ, ◌+◌, ◌<◌, ◌≤◌, List, [], ◌∷◌, ◌++◌, length, take, slice_index_or, Some, refl, ap, sym, subst, arith, inl, inr}
-use Rattle.std.specs.Prelude.{slice_get, sum_by, count_by}
-use Rattle.std.proofs.lemmas.List.{length-take-le}
+-- The cards that are made of all ports and of what these bring.
+use Rattle.std.proofs.Common.{◌≡◌, ◌∙◌, ◌↔◌, ℕ, ◌+◌, ◌<◌, ◌≤◌, List, [], ◌∷◌, ◌++◌, length, Some, ap, sym, subst, arith, inl, inr}
+use Rattle.std.specs.Prelude.{slice_get, sum_by}
 use Rattle.std.proofs.lemmas.Option.{slice_get_within}
+use Rattle.std.proofs.lemmas.Slice.Zip.{AllZip-long}
 use Rattle.std_lemmas.proofs.Lists.{get-snoc}
+use Rattle.card_core.specs.declared.plan.Planned.{Planned}
 use Rattle.card_core.specs.declared.plan.CardPlan.{CardPlan}
+use Rattle.switch_plan.specs.declared.port_rooms.Brought.{Brought}
 use Rattle.switch_plan.specs.declared.port_plans.PortPlan.{PortPlan}
-use Rattle.switch_plan.specs.declared.port_rooms.PortRoom.{PortRoom}
-use Rattle.switch_plan.specs.declared.output_rooms.OutputRoom.{OutputRoom}
-use Rattle.switch_plan.specs.Totals.{sizes_for, goes_to, bytes_to}
-use Rattle.switch_plan.specs.PortSteps.{IsPlanned}
-use Rattle.switch_plan.specs.OutputSteps.{room_at, AreFew, IsRoomOf}
-use Rattle.switch_plan.specs.JobSteps.{packets_of_ports, IsCardOfPort}
-use Rattle.switch_plan.proofs.PortSums.{ports_long, sum_next, sizes_next}
-use Rattle.switch_plan.proofs.OnePass.{room_sizes, room_bytes_are, room_messages_are, room_all_few}
-
--- a port brings little to an output
-room_little : (output : ℕ) (port : PortPlan) → output < 64 → IsPlanned port → AreFew (room_at port.brought.rooms output)
-room_little output port below planned = subst AreFew (sym (planned.brought.rooms output below)) (room_all_few output port.packets.items planned.countable)
-
--- the room of an output, with what one port more brings
-pub room_next : (output : ℕ) (ports : List PortPlan) (k : ℕ) (port : PortPlan) (old new : OutputRoom) → output < 64 → k < length ports
-    → port ≡ slice_index_or ports k port → IsPlanned port → IsRoomOf output (take k (packets_of_ports ports)) old
-    → new.sizes.items ≡ old.sizes.items ++ (room_at port.brought.rooms output).sizes
-    → new.bytes ≡ old.bytes + (room_at port.brought.rooms output).bytes → new.messages ≡ old.messages + (room_at port.brought.rooms output).messages
-    → IsRoomOf output (take (k + 1) (packets_of_ports ports)) new
-room_next output ports k port old new below inside at planned before sizes bytes messages =
-    let all = packets_of_ports ports in
-    let items = port.packets.items in
-    let is = planned.brought.rooms output below in
-    let this : length (take k all) ≡ k = length-take-le k all (omega (arith, ports_long ports)) in
-    let next : length (take (k + 1) all) ≡ k + 1 = length-take-le (k + 1) all (omega (arith, ports_long ports)) in
-    let few = room_little output port below planned in
-    let few_bytes = few.bytes in
-    let few_messages = few.messages in
-    let so_bytes = before.few_bytes in
-    let so_messages = before.few_messages in
-    record {
-      sizes = sizes ∙ ap (λ xs. xs ++ (room_at port.brought.rooms output).sizes) before.sizes
-          ∙ ap (λ xs. sizes_for output (take k all) ++ xs) (ap (λ (r : PortRoom). r.sizes) is ∙ room_sizes output items)
-          ∙ sym (sizes_next output ports k port inside at);
-      bytes = bytes
-          ∙ sum_next (sum_by (bytes_to output)) ports k port old.bytes (room_at port.brought.rooms output).bytes inside at before.bytes
-          (ap (λ (r : PortRoom). r.bytes) is ∙ room_bytes_are output items);
-      messages = messages
-          ∙ sum_next (count_by (goes_to output)) ports k port old.messages (room_at port.brought.rooms output).messages inside at before.messages
-          (ap (λ (r : PortRoom). r.messages) is ∙ room_messages_are output items);
-      few_bytes = omega arith;
-      few_messages = omega arith;
-    }
-
--- what one port more brings is too little for a count to be too great
-pub sums_fit : (output : ℕ) (ports : List PortPlan) (k : ℕ) (port : PortPlan) (old : OutputRoom) → output < 64 → length ports ≤ 64 → k < length ports
-    → IsPlanned port → IsRoomOf output (take k (packets_of_ports ports)) old
-    → (old.bytes + (room_at port.brought.rooms output).bytes < 18446744073709551616)
-    × (old.messages + (room_at port.brought.rooms output).messages < 18446744073709551616)
-sums_fit output ports k port old below few inside planned before =
-    let all = packets_of_ports ports in
-    let this : length (take k all) ≡ k = length-take-le k all (omega (arith, ports_long ports)) in
-    let little = room_little output port below planned in
-    let little_bytes = little.bytes in
-    let little_messages = little.messages in
-    let so_bytes = before.few_bytes in
-    let so_messages = before.few_messages in
-    (omega arith, omega arith)
+use Rattle.switch_plan.specs.Totals.{greatest_slots, max_slots_of}
+use Rattle.switch_plan.specs.CountingSteps.{AreCountable, packets_of_cards}
+use Rattle.switch_plan.specs.PortSteps.{IsBroughtBy, AreBroughtBy, HasRooms}
+use Rattle.switch_plan.specs.CheckingSteps.{IsSizedFor, AreSized, HaveRooms}
+use Rattle.switch_plan.specs.JobSteps.{packets_of_ports, IsCardWith, IsCardOfPort, AreCardsOf}
+use Rattle.switch_plan.proofs.OverLimits.{map_both}
+use Rattle.switch_plan.proofs.PortSums.{ports_long, work_is, sizes_are, bytes_are, messages_are}
 
 -- what holds of the items of two lists, number by number, with one item more of each
 pub both_push : {A B : Type 0} (R : ℕ → A → B → Type 0) (xs : List A) (ys : List B) (x : A) (y : B) → length ys ≡ length xs
@@ -80,26 +31,60 @@ both_push R xs ys x y same before here k a b at_a at_b = elim (get-snoc xs x a k
   ]
 ]
 
--- the card of a port that has the room of its output
-pub card_made : (ports : List PortPlan) (depth k count : ℕ) (port : PortPlan) (room : OutputRoom) (card : CardPlan) → count ≡ length ports
-    → card ≡ record {
-      n = count;
-      card = k;
-      depth = depth;
-      packets = port.packets;
-      bytes = port.bytes;
-      sizes = room.sizes;
-      body_room = room.bytes;
-      packet_room = room.messages;
+module _ (ports : List (List Planned)) (brought : List Brought) (are : AreBroughtBy ports brought) where
+  -- there are as many ports as packets of ports
+  pub brought_long : length brought ≡ length ports
+  brought_long = AllZip-long (λ packets port. AreCountable packets × IsBroughtBy packets port) ports brought are
+
+  -- a card with the rooms for what ports bring is sized for their packets, and the other way round
+  module _ (output : ℕ) (below : output < 64) (card : CardPlan) where
+    pub sized_from : HasRooms brought output card → IsSizedFor ports output card
+    sized_from rooms = record {
+      sizes = rooms.sizes ∙ sizes_are output below ports brought are;
+      body = rooms.body ∙ bytes_are output below ports brought are;
+      messages = rooms.messages ∙ messages_are output below ports brought are;
     }
-    → IsRoomOf k (packets_of_ports ports) room → IsCardOfPort ports depth k port card
-card_made ports depth k count port room card count_is is rooms = subst (IsCardOfPort ports depth k port) (sym is) (record {
-  number = refl;
-  size = count_is;
-  deep = refl;
-  kept = refl;
-  packets = refl;
-  sizes = rooms.sizes;
-  body = rooms.bytes;
-  messages = rooms.messages;
-})
+
+    pub sized_to : IsSizedFor ports output card → HasRooms brought output card
+    sized_to sized = record {
+      sizes = sized.sizes ∙ sym (sizes_are output below ports brought are);
+      body = sized.body ∙ sym (bytes_are output below ports brought are);
+      messages = sized.messages ∙ sym (messages_are output below ports brought are);
+    }
+
+-- cards with the rooms for what they bring are sized for their packets, and the other way round
+pub sized_where : (cards : List CardPlan) (brought : List Brought) → length cards ≤ 64 → AreBroughtBy (packets_of_cards cards) brought
+    → HaveRooms brought cards ↔ AreSized cards
+sized_where cards brought few are =
+    let below : (port : ℕ) (card : CardPlan) → slice_get cards port ≡ Some card → port < 64 = λ port card there.
+    omega (arith, few, slice_get_within cards port card there) in (
+      λ have port card there. sized_from (packets_of_cards cards) brought are port (below port card there) card (have port card there),
+      λ sized port card there. sized_to (packets_of_cards cards) brought are port (below port card there) card (sized port card there),
+    )
+
+-- the card of a port that has the rooms for what all ports bring
+pub card_made : (ports : List PortPlan) (brought : List Brought) (depth k : ℕ) (port : PortPlan) (card : CardPlan)
+    → AreBroughtBy (packets_of_ports ports) brought → k < 64 → IsCardWith brought depth k port card → IsCardOfPort ports depth k port card
+card_made ports brought depth k port card are below is =
+    let sized = sized_from (packets_of_ports ports) brought are k below card is.rooms in
+    record {
+      number = is.number;
+      size = is.size ∙ brought_long (packets_of_ports ports) brought are ∙ ports_long ports;
+      deep = is.deep;
+      kept = ap (λ bytes. bytes.items) is.kept;
+      packets = ap (λ packets. packets.items) is.packets;
+      sizes = sized.sizes;
+      body = sized.body;
+      messages = sized.messages;
+    }
+
+-- the run of cards ends with that of the ports that they are made of
+pub end_is : (ports : List PortPlan) (brought : List Brought) (depth : ℕ) (cards these : List CardPlan) (slots cells : ℕ)
+    → AreBroughtBy (packets_of_ports ports) brought → cells ≡ sum_by (λ (port : Brought). port.work) brought
+    → AreCardsOf ports depth cards → these ≡ cards → slots ≡ greatest_slots (packets_of_cards these) → slots + cells + 1 ≡ max_slots_of (packets_of_ports ports)
+end_is ports brought depth cards these slots cells bring work are same is =
+    let packets : packets_of_cards cards ≡ packets_of_ports ports =
+    map_both (λ (card : CardPlan). card.packets.items) (λ (port : PortPlan). port.packets.items) cards ports (sym are.count)
+    (λ k card port at_card at_port. (are.each k port card at_port at_card).packets) in
+    let slots_are = is ∙ ap (λ (them : List CardPlan). greatest_slots (packets_of_cards them)) same ∙ ap greatest_slots packets in
+    omega (arith, slots_are, work, work_is (packets_of_ports ports) brought bring)

@@ -1,5 +1,5 @@
 -- A plan is good where its parts are.
-use Rattle.std.proofs.Common.{◌≡◌, ◌∙◌, ℕ, ◌≤◌, List, length, Some, sym, ap, subst, arith}
+use Rattle.std.proofs.Common.{◌≡◌, ◌∙◌, ◌↔◌, ℕ, ◌≤◌, List, length, Some, sym, ap, subst, arith}
 use Rattle.std.specs.Prelude.{map, slice_get, slice_index_or, All}
 use Rattle.std.specs.Option.{option_map}
 use Rattle.std.proofs.lemmas.Option.{slice_get-map, slice_get-get_or, get_or_from_slice_get}
@@ -14,11 +14,15 @@ use Rattle.card_core.proofs.Plenty.{few_packets}
 use Rattle.switch_words.specs.declared.limits.TheConstants.{MAX_WORKERS}
 use Rattle.switch_words.specs.Limits.{IsUpTo}
 use Rattle.switch_plan.specs.declared.plan.Plan.{Plan}
+use Rattle.switch_plan.specs.declared.port_rooms.Brought.{Brought}
 use Rattle.switch_plan.specs.Totals.{most_for, slots_of, total_work, total_aside, max_slots_of, sizes_for, body_room_for, packet_room_for}
 use Rattle.switch_plan.specs.CountingSteps.{AreCountable, packets_of_cards}
-use Rattle.switch_plan.specs.CheckingSteps.{IsOwnCard, AreOwnCards, IsSizedFor, AreWhole, IsConsistent}
+use Rattle.switch_plan.specs.CheckingSteps.{IsOwnCard, AreOwnCards, IsSizedFor, AreSized, AreTotals, AreWhole, IsConsistent, FitsCards}
+use Rattle.switch_plan.specs.PortSteps.{AreBroughtBy}
 use Rattle.switch_plan.specs.GoodPlans.{IsGood, IsBurst, IsCardOf, switch_plan_of, packets_in}
 use Rattle.switch_plan.proofs.Summing.{packets_at}
+use Rattle.switch_plan.proofs.PortSums.{aside_is}
+use Rattle.switch_plan.proofs.AllPorts.{sized_where}
 
 -- ---- the packets of good cards can be counted
 countable : (card : CardPlan) → IsGoodPlan (card_plan_of card) → IsSmallPlan (card_plan_of card) → AreCountable card.packets.items
@@ -67,6 +71,27 @@ card_of plan packets ports same count port card own sized = record {
   body = sized.body ∙ ap (body_room_for port) (sym same);
   messages = sized.messages ∙ ap (packet_room_for port) (sym same);
 }
+
+-- the numbers are those of the packets where they are those of what the cards bring
+pub consistent_where : (plan : Plan) (cards : List CardPlan) (brought : List Brought) → cards ≡ plan.cards.items → length cards ≤ 64
+    → AreBroughtBy (packets_of_cards cards) brought → FitsCards plan cards brought ↔ IsConsistent plan
+consistent_where plan cards brought same few are =
+    let aside = aside_is (packets_of_cards cards) brought are in
+    let rooms = sized_where cards brought few are in
+    let totals = λ (them : List CardPlan). AreTotals (length them) plan.max_slots (packets_of_cards them) in (
+      λ fits. record {
+        totals = subst totals same fits.totals;
+        aside = fits.aside ∙ aside ∙ ap (λ (them : List CardPlan). total_aside (packets_of_cards them)) same;
+        sized = subst (λ (them : List CardPlan). AreSized them) same (rooms.0 fits.rooms);
+        whole = fits.whole;
+      },
+      λ is. record {
+        totals = subst totals (sym same) is.totals;
+        aside = is.aside ∙ ap (λ (them : List CardPlan). total_aside (packets_of_cards them)) (sym same) ∙ sym aside;
+        rooms = rooms.1 (subst (λ (them : List CardPlan). AreSized them) (sym same) is.sized);
+        whole = is.whole;
+      },
+    )
 
 pub good_from : (plan : Plan) → IsChecked plan → IsGood (switch_plan_of plan)
 good_from plan checked =

@@ -3,7 +3,7 @@ use Rattle.std.proofs.Common.{◌≡◌, ◌∙◌, ℕ, ◌+◌, ◌<◌, ◌�
 use Rattle.std.specs.Prelude.{map, All, slice_get, sum, sum_by, count_by}
 use Rattle.std.proofs.lemmas.List.Elements.{All-map}
 use Rattle.std.proofs.lemmas.List.Folds.{fold-map}
-use Rattle.std.proofs.lemmas.List.Sums.{sum-map, sum_by-le, sum_by-le-sum_by, count_by-le-length}
+use Rattle.std.proofs.lemmas.List.Sums.{sum-map, sum_by-le}
 use Rattle.std.proofs.lemmas.Option.{slice_get_within, slice_get-get_or, get_or_from_slice_get}
 use Rattle.std_lemmas.proofs.Lists.{at_place}
 use Rattle.std_lemmas.proofs.Sums.{sum_by-plus}
@@ -23,12 +23,12 @@ use Rattle.switch_plan.specs.Refusals.{first_link, mixed_links, limits_for}
 use Rattle.switch_plan.specs.ReadingSteps.{IsCaptureOf, IsTrafficOf}
 use Rattle.switch_plan.specs.CountingSteps.{AreCountable}
 use Rattle.switch_plan.specs.PortSteps.{slots_at, is_long, IsPlanned, ArePortPlansOf}
-use Rattle.switch_plan.specs.JobSteps.{packets_of_ports, HasSlots, AreFit, over_ports}
+use Rattle.switch_plan.specs.JobSteps.{packets_of_ports, AreFit, over_ports}
 use Rattle.switch_plan.proofs.RoomBounds.{most_few}
 use Rattle.switch_plan.proofs.Totalling.{greatest_few}
 use Rattle.switch_plan.proofs.Placed.{taken_long, few_packets, port_slots, long_are, aside_are}
 use Rattle.switch_plan.proofs.Alike.{one_link, traffic_same}
-use Rattle.switch_plan.proofs.PortSums.{ports_long}
+use Rattle.switch_plan.proofs.PortSums.{ports_long, counted_within}
 use Rattle.switch_plan.proofs.OverLimits.{AreWithin, map_both, within_from, traffic_is}
 
 -- a capture that was read of its bytes
@@ -85,12 +85,6 @@ pub all_packets : (P : List Planned → Type 0) (ports : List PortPlan)
     → ((k : ℕ) (port : PortPlan) → slice_get ports k ≡ Some port → P port.packets.items) → All P (packets_of_ports ports)
 all_packets P ports each =
     All-map P (λ (port : PortPlan). port.packets.items) ports (λ k d inside. each k (slice_index_or ports k d) (slice_get-get_or ports k d inside))
-
--- no more packets go nowhere than there are
-aside_within : (ports : List (List Planned)) → total_aside ports ≤ sum_by length ports
-aside_within ports =
-    let goes_aside : Planned → Bool = λ packet. packet.fan == 0 in
-    sum_by-le-sum_by (count_by goes_aside) length ports (λ packets. count_by-le-length goes_aside packets)
 
 -- each port of all captures is planned
 pub planned_all : (table : List RouteLine) (pace : Pace) (captures : List Capture) (ports : List PortPlan) → ArePortPlansOf table pace captures ports
@@ -159,14 +153,11 @@ module _ {table : List RouteLine} {settings : Settings} {pace : Pace} {n : ℕ} 
       (λ k port at. let found = capture_of k port at in (job.ports_are.each k found.0 port found.1 at).planned.countable)
 
   -- Each port's slots are those of its packets,
-  slots_at_port : (k : ℕ) (port : PortPlan) → slice_get ports k ≡ Some port → HasSlots port
+  slots_at_port : (k : ℕ) (port : PortPlan) → slice_get ports k ≡ Some port → port.slots ≡ slots_of port.packets.items
   slots_at_port k port at =
       let found = capture_of k port at in
       let is = found.2 in
       is.slots ∙ sym (port_slots n table pace found.0 port.packets.items job.routes is.read is.traffic)
-
-  slots_are : All HasSlots ports
-  slots_are k d inside = slots_at_port k (slice_index_or ports k d) (slice_get-get_or ports k d inside)
 
   -- and within the limit.
   pub slots_all : All (λ packets. slots_of packets ≤ (limits_for settings.long n).slots) (packets_of_ports ports)
@@ -239,8 +230,7 @@ module _ {table : List RouteLine} {settings : Settings} {pace : Pace} {n : ℕ} 
   ports_fit = record {
     few = let count = count_is in let few = job.few in omega (arith, count, few);
     planned = planned_all table pace captures ports job.ports_are;
-    slots = slots_are;
     end = end_few;
-    aside = let few = packets_few in omega (arith, few, aside_within (packets_of_ports ports));
+    aside = let few = packets_few in omega (arith, few, counted_within (λ (packet : Planned). packet.fan == 0) (packets_of_ports ports));
     long = let long = long_all in let aside = aside_all in omega (arith, long, aside);
   }

@@ -142,15 +142,6 @@ room_is_few output k ps all =
     let part = length-take k ps in
     record { bytes = omega arith; messages = omega arith }
 
--- and few of them, of all packets of a port
-pub room_all_few : (output : ℕ) (ps : List Planned) → AreCountable ps → AreFew (room_for output ps)
-room_all_few output ps all =
-    let few = room_few output no_room ps all.forwarded in
-    let a = few.0 in
-    let b = few.1 in
-    let most = all.few in
-    record { bytes = omega arith; messages = omega arith }
-
 -- ---- one packet at each of its outputs
 pub goes_where : (output : ℕ) (p : Planned) → Has p.fan output → goes_to output p ≡ true
 goes_where output p has = eq-eqb (bit_at p.fan output) 1 has

@@ -1,6 +1,6 @@
--- Sums over packets and over cards, as far as a loop has come.
-use Rattle.std.proofs.Common.{◌≡◌, ◌∙◌, ℕ, zero, suc, ◌+◌, ◌/◌, ◌^◌, ◌<◌, ◌≤◌, List, length, take, slice_index_or, ap, sym, subst, arith}
-use Rattle.std.specs.Prelude.{map, max, sum_by, count_by, ◌==◌, count_ones, All}
+-- How much a packet brings, and the greatest number of slots of cards, as far as a loop has come.
+use Rattle.std.proofs.Common.{◌≡◌, ◌∙◌, ℕ, zero, suc, ◌+◌, ◌/◌, ◌^◌, ◌<◌, ◌≤◌, List, length, take, slice_index_or, ap, sym, arith}
+use Rattle.std.specs.Prelude.{map, max, count_ones}
 use Rattle.std.proofs.lemmas.Nat.{ones_le_self}
 use Rattle.std.proofs.lemmas.List.Sums.{fold_more}
 use Rattle.std.proofs.lemmas.List.{length-map}
@@ -10,8 +10,8 @@ use Rattle.cell_cutter.specs.Messages.{cells_of_packet}
 use Rattle.card_core.specs.declared.plan.Planned.{Planned}
 use Rattle.card_core.specs.declared.plan.CardPlan.{CardPlan}
 use Rattle.card_core.specs.Plans.{no_packet}
-use Rattle.switch_plan.specs.Totals.{work_of, total_work, total_aside, bytes_to, goes_to, body_room_for, packet_room_for, slots_of, greatest_slots}
-use Rattle.switch_plan.specs.CountingSteps.{AreCountable, packets_of_cards}
+use Rattle.switch_plan.specs.Totals.{slots_of, greatest_slots}
+use Rattle.switch_plan.specs.CountingSteps.{packets_of_cards}
 use Rattle.switch_plan.proofs.Arriving.{taken_last}
 
 -- a number of `bits` bits has at most as many that are set
@@ -32,43 +32,8 @@ pub packets_at : (cards : List CardPlan) (k : ℕ) (card : CardPlan) → card �
 packets_at cards k card is =
     get_or-map_same (λ (c : CardPlan). c.packets.items) cards k card ∙ ap (λ (c : CardPlan). c.packets.items) (sym is)
 
-cards_long : (cards : List CardPlan) → length (packets_of_cards cards) ≡ length cards
+pub cards_long : (cards : List CardPlan) → length (packets_of_cards cards) ≡ length cards
 cards_long cards = length-map cards (λ (c : CardPlan). c.packets.items)
-
-pub countable_at : (cards : List CardPlan) (k : ℕ) (card : CardPlan) → All AreCountable (packets_of_cards cards) → k < length cards
-    → card ≡ slice_index_or cards k card → AreCountable card.packets.items
-countable_at cards k card all inside is =
-    subst AreCountable (packets_at cards k card is) (all k card.packets.items (omega (arith, cards_long cards)))
-
-pub work_next : (cards : List CardPlan) (k : ℕ) (card : CardPlan) → k < length cards → card ≡ slice_index_or cards k card
-    → total_work (take (k + 1) (packets_of_cards cards)) ≡ total_work (take k (packets_of_cards cards)) + sum_by work_of card.packets.items
-work_next cards k card inside is =
-    fold_more (λ a (packets : List Planned). a + sum_by work_of packets) 0 (packets_of_cards cards) k card.packets.items (omega (arith, cards_long cards))
-    ∙ ap (λ packets. total_work (take k (packets_of_cards cards)) + sum_by work_of packets) (packets_at cards k card is)
-
-pub aside_next : (cards : List CardPlan) (k : ℕ) (card : CardPlan) → k < length cards → card ≡ slice_index_or cards k card
-    → total_aside (take (k + 1) (packets_of_cards cards)) ≡ total_aside (take k (packets_of_cards cards)) + count_by
-    (λ packet. packet.fan == 0) card.packets.items
-aside_next cards k card inside is =
-    fold_more (λ a (packets : List Planned). a + count_by (λ (packet : Planned). packet.fan == 0) packets) 0 (packets_of_cards cards) k card.packets.items
-    (omega (arith, cards_long cards))
-    ∙ ap (λ packets. total_aside (take k (packets_of_cards cards)) + count_by (λ (packet : Planned). packet.fan == 0) packets) (packets_at cards k card is)
-
-pub bytes_next : (output : ℕ) (cards : List CardPlan) (k : ℕ) (card : CardPlan) → k < length cards → card ≡ slice_index_or cards k card
-    → body_room_for output (take (k + 1) (packets_of_cards cards)) ≡ body_room_for output (take k (packets_of_cards cards)) + sum_by
-    (bytes_to output) card.packets.items
-bytes_next output cards k card inside is =
-    fold_more (λ a (packets : List Planned). a + sum_by (bytes_to output) packets) 0 (packets_of_cards cards) k card.packets.items
-    (omega (arith, cards_long cards))
-    ∙ ap (λ packets. body_room_for output (take k (packets_of_cards cards)) + sum_by (bytes_to output) packets) (packets_at cards k card is)
-
-pub messages_next : (output : ℕ) (cards : List CardPlan) (k : ℕ) (card : CardPlan) → k < length cards → card ≡ slice_index_or cards k card
-    → packet_room_for output (take (k + 1) (packets_of_cards cards)) ≡ packet_room_for output (take k (packets_of_cards cards)) + count_by
-    (goes_to output) card.packets.items
-messages_next output cards k card inside is =
-    fold_more (λ a (packets : List Planned). a + count_by (goes_to output) packets) 0 (packets_of_cards cards) k card.packets.items
-    (omega (arith, cards_long cards))
-    ∙ ap (λ packets. packet_room_for output (take k (packets_of_cards cards)) + count_by (goes_to output) packets) (packets_at cards k card is)
 
 pub slots_next : (cards : List CardPlan) (k : ℕ) (card : CardPlan) → k < length cards → card ≡ slice_index_or cards k card
     → greatest_slots (take (k + 1) (packets_of_cards cards)) ≡ max (greatest_slots (take k (packets_of_cards cards))) (slots_of card.packets.items)

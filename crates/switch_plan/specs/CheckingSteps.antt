@@ -1,11 +1,13 @@
 -- The parts of a good plan, of the cards as they stand in the code: the words of the calls inside.
-use Rattle.std.specs.Prelude.{◌≡◌, ℕ, ◌+◌, ◌≤◌, ◌%◌, false, List, length, All, Some, slice_get}
+use Rattle.std.specs.Prelude.{◌≡◌, ℕ, ◌+◌, ◌≤◌, ◌%◌, false, List, length, sum_by, All, Some, slice_get}
 use Rattle.card_core.specs.declared.plan.Planned.{Planned}
 use Rattle.card_core.specs.declared.plan.CardPlan.{CardPlan}
 use Rattle.card_core.specs.Plans.{plan_of, IsGoodPlan, IsSmallPlan}
 use Rattle.switch_plan.specs.declared.plan.Plan.{Plan}
+use Rattle.switch_plan.specs.declared.port_rooms.Brought.{Brought}
 use Rattle.switch_plan.specs.Totals.{most_for, slots_of, total_work, total_aside, max_slots_of, sizes_for, body_room_for, packet_room_for}
 use Rattle.switch_plan.specs.CountingSteps.{packets_of_cards}
+use Rattle.switch_plan.specs.PortSteps.{HasRooms}
 
 -- a card that is well formed and within its limits, of the port, of a switch of `ports` ports, and with queues of this depth
 pub record IsOwnCard (ports depth port : ℕ) (card : CardPlan) : Type 0 where
@@ -30,6 +32,10 @@ pub record IsSizedFor (packets : List (List Planned)) (port : ℕ) (card : CardP
 abbrev pub AreSized : List CardPlan → Type 0
 AreSized cards = (port : ℕ) (card : CardPlan) → slice_get cards port ≡ Some card → IsSizedFor (packets_of_cards cards) port card
 
+-- each card has the rooms for what these ports bring to its output
+abbrev pub HaveRooms : List Brought → List CardPlan → Type 0
+HaveRooms brought cards = (port : ℕ) (card : CardPlan) → slice_get cards port ≡ Some card → HasRooms brought port card
+
 -- packets within the limits of a switch of `ports` ports, and the slot before which their run ends
 pub record AreTotals (ports max_slots : ℕ) (packets : List (List Planned)) : Type 0 where
   pub slots : All (λ packets. slots_of packets ≤ most_for ports) packets
@@ -45,4 +51,11 @@ pub record IsConsistent (plan : Plan) : Type 0 where
   pub totals : AreTotals (length plan.cards.items) plan.max_slots (packets_of_cards plan.cards.items)
   pub aside : plan.oversize + plan.unrouted ≡ total_aside (packets_of_cards plan.cards.items)
   pub sized : AreSized plan.cards.items
+  pub whole : plan.nano ≡ false → All AreWhole (packets_of_cards plan.cards.items)
+
+-- and one whose numbers are those of what these cards bring
+pub record FitsCards (plan : Plan) (cards : List CardPlan) (brought : List Brought) : Type 0 where
+  pub totals : AreTotals (length cards) plan.max_slots (packets_of_cards cards)
+  pub aside : plan.oversize + plan.unrouted ≡ sum_by (λ port. port.aside) brought
+  pub rooms : HaveRooms brought cards
   pub whole : plan.nano ≡ false → All AreWhole (packets_of_cards plan.cards.items)

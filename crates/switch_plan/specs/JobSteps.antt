@@ -11,20 +11,17 @@ use Rattle.switch_words.specs.declared.job.Settings.{Settings}
 use Rattle.switch_plan.specs.declared.fault.PlanFault.{PlanFault}
 use Rattle.switch_plan.specs.declared.limits.Limits.{Limits}
 use Rattle.switch_plan.specs.declared.plan.Plan.{Plan}
+use Rattle.switch_plan.specs.declared.port_rooms.Brought.{Brought}
 use Rattle.switch_plan.specs.declared.port_plans.PortPlan.{PortPlan}
-use Rattle.switch_plan.specs.Totals.{slots_of, total_work, total_aside, max_slots_of, sizes_for, body_room_for, packet_room_for}
+use Rattle.switch_plan.specs.Totals.{total_work, total_aside, max_slots_of, sizes_for, body_room_for, packet_room_for}
 use Rattle.switch_plan.specs.Traffic.{file_of}
 use Rattle.switch_plan.specs.Refusals.{over_limits, terms_of, limits_for, refusal_of}
-use Rattle.switch_plan.specs.PortSteps.{is_long, IsPlanned}
+use Rattle.switch_plan.specs.PortSteps.{is_long, IsPlanned, HasRooms}
 use Rattle.switch_plan.specs.GoodPlans.{switch_plan_of, IsGood, IsBurst, IsWithin, IsPlanOf}
 
 -- the packets of each port
 abbrev pub packets_of_ports : List PortPlan → List (List Planned)
 packets_of_ports ports = map (λ port. port.packets.items) ports
-
--- its slots are those of its packets
-abbrev pub HasSlots : PortPlan → Type 0
-HasSlots port = port.slots ≡ slots_of port.packets.items
 
 -- the first limit that these ports pass
 abbrev pub over_ports : Limits → List PortPlan → Option PlanFault
@@ -35,10 +32,18 @@ over_ports limits ports =
 pub record AreFit (ports : List PortPlan) : Type 0 where
   pub few : length ports ≤ MAX_PORTS
   pub planned : All IsPlanned ports
-  pub slots : All HasSlots ports
   pub end : max_slots_of (packets_of_ports ports) < 2 ^ 32
   pub aside : total_aside (packets_of_ports ports) < 2 ^ 32
   pub long : sum_by (count_by is_long) (packets_of_ports ports) ≤ total_aside (packets_of_ports ports)
+
+-- the card of a port, of number k, with the rooms for what these ports bring to its output
+pub record IsCardWith (brought : List Brought) (depth k : ℕ) (port : PortPlan) (card : CardPlan) : Type 0 where
+  pub number : card.card ≡ k
+  pub size : card.n ≡ length brought
+  pub deep : card.depth ≡ depth
+  pub kept : card.bytes ≡ port.bytes
+  pub packets : card.packets ≡ port.packets
+  pub rooms : HasRooms brought k card
 
 -- the card of port k of these, with the rooms for what the packets of all of them bring to its output
 pub record IsCardOfPort (ports : List PortPlan) (depth k : ℕ) (port : PortPlan) (card : CardPlan) : Type 0 where

@@ -1,15 +1,12 @@
--- What packets bring to each output, as far as a pass over them has come: the words of the calls inside.
-use Rattle.std.specs.Prelude.{◌≡◌, ℕ, ◌+◌, ◌*◌, ◌≤◌, max, if◌then◌else◌, List, [], length, fold, replicate, Some, slice_get, slice_index}
-use Rattle.std.specs.Prelude.{slice_index_or, slice_set}
+-- What the packets of a port bring to each output, as far as a pass over them has come: the words of the calls inside.
+use Rattle.std.specs.Prelude.{ℕ, ◌+◌, ◌*◌, ◌≤◌, max, if◌then◌else◌, List, [], fold, replicate, slice_index, slice_index_or, slice_set}
 use Rattle.cell_cutter.specs.declared.sizes.TheConstants.{MAX_MESSAGE_BYTES}
 use Rattle.reassembly.specs.declared.limits.TheConstants.{FLOWS_PER_INPUT}
 use Rattle.switch_plan.specs.declared.limits.TheConstants.{MAX_PORT_PACKETS}
 use Rattle.card_core.specs.declared.plan.Planned.{Planned}
 use Rattle.switch_plan.specs.declared.port_rooms.PortRoom.{PortRoom}
-use Rattle.switch_plan.specs.declared.output_rooms.OutputRoom.{OutputRoom}
-use Rattle.switch_plan.specs.Totals.{goes_to, flow_of, message_length, sizes_for, body_room_for, packet_room_for}
+use Rattle.switch_plan.specs.Totals.{goes_to, flow_of, message_length}
 
--- ---- by one port
 -- nothing came
 abbrev pub no_room : PortRoom
 no_room = record { sizes = replicate FLOWS_PER_INPUT 0; bytes = 0; messages = 0 }
@@ -43,17 +40,3 @@ room_for output packets = fold (with_packet output) no_room packets
 pub record AreFew (room : PortRoom) : Type 0 where
   pub bytes : room.bytes ≤ MAX_PORT_PACKETS * MAX_MESSAGE_BYTES
   pub messages : room.messages ≤ MAX_PORT_PACKETS
-
--- ---- by all ports
--- what the packets of these ports bring to an output
-pub record IsRoomOf (output : ℕ) (ports : List (List Planned)) (room : OutputRoom) : Type 0 where
-  pub sizes : room.sizes.items ≡ sizes_for output ports
-  pub bytes : room.bytes ≡ body_room_for output ports
-  pub messages : room.messages ≡ packet_room_for output ports
-  pub few_bytes : room.bytes ≤ length ports * (MAX_PORT_PACKETS * MAX_MESSAGE_BYTES)
-  pub few_messages : room.messages ≤ length ports * MAX_PORT_PACKETS
-
--- and to each of the outputs
-pub record AreRoomsOf (outputs : ℕ) (ports : List (List Planned)) (rooms : List OutputRoom) : Type 0 where
-  pub count : length rooms ≡ outputs
-  pub each : (output : ℕ) (room : OutputRoom) → slice_get rooms output ≡ Some room → IsRoomOf output ports room

@@ -1,6 +1,7 @@
 -- The ports of a job, each planned by itself: the words of the calls inside.
-use Rattle.std.specs.Prelude.{◌≡◌, ℕ, ◌+◌, ◌*◌, ◌^◌, ◌<◌, ◌≤◌, nat_lt, ◌==◌, Bool, List, length, map, sum_by, count_by}
+use Rattle.std.specs.Prelude.{◌≡◌, ℕ, ◌+◌, ◌*◌, ◌^◌, ◌<◌, ◌≤◌, nat_lt, ◌==◌, Bool, List, length, map, flat_map, sum_by, count_by}
 use Rattle.std.specs.Prelude.{All, Some, Result, IfOk, slice_get, slice_index_or}
+use Rattle.std.specs.List.{AllZip}
 use Rattle.rotating_pick.specs.declared.limits.TheConstants.{MAX_PORTS}
 use Rattle.rotating_pick.specs.declared.memory.OutOfMemory.{OutOfMemory}
 use Rattle.cell_cutter.specs.declared.sizes.TheConstants.{MAX_FORWARDED_BYTES}
@@ -10,8 +11,9 @@ use Rattle.pcap_records.specs.declared.capture.Capture.{Capture}
 use Rattle.pcap_records.specs.Packets.{packets_of}
 use Rattle.forward_table.specs.declared.route_lines.RouteLine.{RouteLine}
 use Rattle.card_core.specs.declared.plan.Planned.{Planned}
+use Rattle.card_core.specs.declared.plan.CardPlan.{CardPlan}
 use Rattle.switch_plan.specs.declared.limits.TheConstants.{MAX_PORT_PACKETS}
-use Rattle.switch_plan.specs.declared.totals.TheConstants.{MAX_WORK}
+use Rattle.switch_plan.specs.declared.port_rooms.TheConstants.{MAX_WORK}
 use Rattle.switch_plan.specs.declared.port_rooms.Brought.{Brought}
 use Rattle.switch_plan.specs.declared.port_plans.PortPlan.{PortPlan}
 use Rattle.switch_plan.specs.Traffic.{stamp_of, port_traffic}
@@ -45,6 +47,24 @@ pub record IsBroughtBy (packets : List Planned) (brought : Brought) : Type 0 whe
   pub aside : brought.aside ≡ count_by (λ packet. packet.fan == 0) packets
   pub oversize : brought.oversize ≡ count_by is_long packets
   pub light : brought.work ≤ length packets * MAX_WORK
+
+-- What the packets of each port bring, which can be counted.
+abbrev pub AreBroughtBy : List (List Planned) → List Brought → Type 0
+AreBroughtBy ports brought = AllZip (λ packets port. AreCountable packets × IsBroughtBy packets port) ports brought
+
+-- What ports bring is so little that no sum over them is too great.
+pub record AreSummable (brought : List Brought) : Type 0 where
+  pub work : sum_by (λ port. port.work) brought < 2 ^ 64
+  pub aside : sum_by (λ port. port.aside) brought < 2 ^ 64
+  pub oversize : sum_by (λ port. port.oversize) brought < 2 ^ 64
+  pub bytes : (output : ℕ) → output < MAX_PORTS → sum_by (λ port. (room_at port.rooms output).bytes) brought < 2 ^ 64
+  pub messages : (output : ℕ) → output < MAX_PORTS → sum_by (λ port. (room_at port.rooms output).messages) brought < 2 ^ 64
+
+-- The card has the rooms for what these ports bring to an output.
+pub record HasRooms (brought : List Brought) (output : ℕ) (card : CardPlan) : Type 0 where
+  pub sizes : card.sizes.items ≡ flat_map (λ port. (room_at port.rooms output).sizes) brought
+  pub body : card.body_room ≡ sum_by (λ port. (room_at port.rooms output).bytes) brought
+  pub messages : card.packet_room ≡ sum_by (λ port. (room_at port.rooms output).messages) brought
 
 -- So little that what one packet more brings can be added.
 pub record HasRoom (brought : Brought) : Type 0 where

@@ -1,16 +1,17 @@
-ghost use Rattle.std.specs.Prelude.{◌≡◌, ◌↔◌, ◌+◌, ◌<◌, ◌≤◌, false, length, All, IsTrue};
+ghost use Rattle.std.specs.Prelude.{◌≡◌, ◌↔◌, ◌+◌, ◌<◌, ◌≤◌, false, length, take, flat_map, All, sum_by, IsTrue};
 ghost use Rattle.switch_words.specs.Limits.{IsUpTo};
-ghost use Rattle.switch_plan.specs.Totals.{total_aside, sizes_for};
 ghost use Rattle.switch_plan.specs.CountingSteps.{AreCountable, packets_of_cards};
-ghost use Rattle.switch_plan.specs.CheckingSteps.{IsOwnCard, AreOwnCards, IsSizedFor, AreSized, AreTotals, AreWhole, IsConsistent};
+ghost use Rattle.switch_plan.specs.OutputSteps.{room_at};
+ghost use Rattle.switch_plan.specs.PortSteps.{AreSummable, AreBroughtBy, HasRooms};
+ghost use Rattle.switch_plan.specs.CheckingSteps.{IsOwnCard, AreOwnCards, HaveRooms, AreTotals, AreWhole, IsConsistent, FitsCards};
 ghost use Rattle.switch_plan.specs.GoodPlans.{IsGood, IsBurst, switch_plan_of};
 
 use crate::limits::{MAX_CELLS, most_for};
 use crate::plan::Plan;
-use crate::rooms::{body_room, greatest_messages, packet_room};
-use crate::totals::{greatest_slots, total_aside, total_work};
+use crate::port_rooms::{Brought, brought_by};
+use crate::totals::{bytes_to, greatest_slots, messages_to, total_aside, total_work};
 use card_core::{CardPlan, Planned};
-use rotating_pick::{MAX_PORTS, MAX_ROUNDS};
+use rotating_pick::{MAX_PORTS, MAX_ROUNDS, PORT_COUNT};
 use switch_words::MAX_WORKERS;
 
 impl Plan {
@@ -37,9 +38,21 @@ impl Plan {
         requires packets { All AreCountable (packets_of_cards self.now.cards.items) }
         ensures { IsTrue result ↔ IsConsistent self.now }
     {
-        are_totals(self.max_slots, &self.cards)
-            && self.has_aside()
-            && are_sized(&self.cards)
+        let cards: &[CardPlan] = &self.cards;
+        let brought = brought_by_cards(cards);
+        self.fits(cards, &brought[..cards.len()])
+    }
+
+    // Whether they are those of what these cards bring.
+    fn fits(&self, cards: &[CardPlan], brought: &[Brought]) -> bool
+        requires few { length cards.now ≤ MAX_PORTS }
+        requires brought { AreBroughtBy (packets_of_cards cards.now) brought.now }
+        requires fit { AreSummable brought.now }
+        ensures { IsTrue result ↔ FitsCards self.now cards.now brought.now }
+    {
+        are_totals(self.max_slots, cards, brought)
+            && self.has_aside(brought)
+            && are_sized(cards, brought)
             && self.is_whole()
     }
 
@@ -53,12 +66,11 @@ impl Plan {
     }
 
     // Whether the packets that go nowhere are as many as the plan says.
-    fn has_aside(&self) -> bool
-        requires few { length self.now.cards.items ≤ MAX_PORTS }
-        requires packets { All AreCountable (packets_of_cards self.now.cards.items) }
-        ensures { IsTrue result ↔ (self.now.oversize + self.now.unrouted ≡ total_aside (packets_of_cards self.now.cards.items)) }
+    fn has_aside(&self, brought: &[Brought]) -> bool
+        requires { AreSummable brought.now }
+        ensures { IsTrue result ↔ (self.now.oversize + self.now.unrouted ≡ sum_by (λ port. port.aside) brought.now) }
     {
-        u64::from(self.oversize) + u64::from(self.unrouted) == total_aside(&self.cards)
+        u64::from(self.oversize) + u64::from(self.unrouted) == total_aside(brought)
     }
 
     // Whether the packets have times of whole microseconds, where outputs are written in microseconds.
@@ -67,6 +79,19 @@ impl Plan {
     {
         self.nano || are_whole(&self.cards)
     }
+}
+
+// What the packets of each of these cards bring.
+fn brought_by_cards(cards: &[CardPlan]) -> [Brought; PORT_COUNT]
+    requires few { length cards.now ≤ MAX_PORTS }
+    requires packets { All AreCountable (packets_of_cards cards.now) }
+    ensures { AreBroughtBy (packets_of_cards cards.now) (take (length cards.now) result) }
+{
+    let mut brought = [Brought::nothing(); PORT_COUNT];
+    for port in 0..cards.len() {
+        brought[port] = brought_by(&cards[port].packets);
+    }
+    brought
 }
 
 // Whether the number is 1 to `greatest`.
@@ -97,13 +122,13 @@ fn is_own_card(ports: u32, depth: u32, port: u32, card: &CardPlan) -> bool
 }
 
 // Whether the packets of all cards are within the limits of the switch, and a run of them ends before this slot.
-fn are_totals(max_slots: u32, cards: &[CardPlan]) -> bool
-    requires few { length cards.now ≤ MAX_PORTS }
-    requires packets { All AreCountable (packets_of_cards cards.now) }
+fn are_totals(max_slots: u32, cards: &[CardPlan], brought: &[Brought]) -> bool
+    requires brought { AreBroughtBy (packets_of_cards cards.now) brought.now }
+    requires fit { AreSummable brought.now }
     ensures { IsTrue result ↔ AreTotals (length cards.now) max_slots (packets_of_cards cards.now) }
 {
     let slots = greatest_slots(cards);
-    let cells = total_work(cards);
+    let cells = total_work(brought);
     is_end(most_for(cards.len()), slots, cells, max_slots)
 }
 
@@ -115,41 +140,39 @@ fn is_end(most: u64, slots: u64, cells: u64, end: u32) -> bool
     slots <= most && cells <= most && u64::from(end) == slots + cells + 1
 }
 
-// Whether each card has the rooms for what the packets of all of them bring to its output.
-fn are_sized(cards: &[CardPlan]) -> bool
+// Whether each card has the rooms for what these ports bring to its output.
+fn are_sized(cards: &[CardPlan], brought: &[Brought]) -> bool
     requires few { length cards.now ≤ MAX_PORTS }
-    requires packets { All AreCountable (packets_of_cards cards.now) }
-    ensures { IsTrue result ↔ AreSized cards.now }
+    requires fit { AreSummable brought.now }
+    ensures { IsTrue result ↔ HaveRooms brought.now cards.now }
 {
     for output in 0..cards.len() {
-        if !is_sized(output as u32, &cards[output], cards) {
+        if !is_sized(output, &cards[output], brought) {
             return false;
         }
     }
     true
 }
 
-// Whether the card has the rooms for what the packets of all cards bring to this output.
-fn is_sized(output: u32, card: &CardPlan, cards: &[CardPlan]) -> bool
+// Whether the card has the rooms for what these ports bring to this output.
+fn is_sized(output: usize, card: &CardPlan, brought: &[Brought]) -> bool
     requires output { output < MAX_PORTS }
-    requires few { length cards.now ≤ MAX_PORTS }
-    requires packets { All AreCountable (packets_of_cards cards.now) }
-    ensures { IsTrue result ↔ IsSizedFor (packets_of_cards cards.now) output card.now }
+    requires fit { AreSummable brought.now }
+    ensures { IsTrue result ↔ HasRooms brought.now output card.now }
 {
-    card.body_room == body_room(output, cards)
-        && u64::from(card.packet_room) == packet_room(output, cards)
-        && are_greatest(output, &card.sizes, cards)
+    card.body_room == bytes_to(output, brought)
+        && u64::from(card.packet_room) == messages_to(output, brought)
+        && are_greatest(output, &card.sizes, brought)
 }
 
-// Whether these are the greatest messages of all flows of all inputs to this output.
-fn are_greatest(output: u32, sizes: &[u32], cards: &[CardPlan]) -> bool
-    requires output { output < MAX_PORTS }
-    requires packets { All AreCountable (packets_of_cards cards.now) }
-    ensures { IsTrue result ↔ (sizes.now ≡ sizes_for output (packets_of_cards cards.now)) }
+// Whether these are the greatest messages of all flows of all ports to this output.
+fn are_greatest(output: usize, sizes: &[u32], brought: &[Brought]) -> bool
+    requires { output < MAX_PORTS }
+    ensures { IsTrue result ↔ (sizes.now ≡ flat_map (λ port. (room_at port.rooms output).sizes) brought.now) }
 {
     let mut rest = sizes;
-    for card in cards {
-        match rest.strip_prefix(&greatest_messages(output, &card.packets)) {
+    for port in brought {
+        match rest.strip_prefix(&port.rooms[output].sizes) {
             Some(more) => rest = more,
             None => return false,
         }

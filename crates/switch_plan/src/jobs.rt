@@ -10,17 +10,20 @@ ghost use Rattle.switch_plan.specs.declared.fault.PlanFault.{PlanFault};
 ghost use Rattle.switch_plan.specs.Traffic.{CaptureFile, file_of};
 ghost use Rattle.switch_plan.specs.Refusals.{AreRead, IsRefusal, refusal_of, terms_of, limits_for};
 ghost use Rattle.switch_plan.specs.ReadingSteps.{bytes_of_files, IsCaptureOf};
-ghost use Rattle.switch_plan.specs.JobSteps.{AreFit, IsPlanWith, IsJobPlan};
+ghost use Rattle.switch_plan.specs.PortSteps.{AreBroughtBy};
+ghost use Rattle.switch_plan.specs.JobSteps.{packets_of_ports, AreFit, IsPlanWith, IsJobPlan};
 ghost use Rattle.switch_plan.specs.GoodPlans.{switch_plan_of, IsGood, IsBurst, IsWithin, IsPlanOf};
 
 use crate::fault::PlanFault;
 use crate::limits::Limits;
 use crate::links::common_link;
-use crate::output_rooms::cards_of;
+use crate::output_rooms::{brought_by_ports, cards_of};
 use crate::plan::Plan;
-use crate::port_limits::{are_within, greatest_slots, total_aside, total_oversize, total_work};
+use crate::port_limits::are_within;
 use crate::port_plans::{PortPlan, port_plans};
+use crate::port_rooms::Brought;
 use crate::reading::read_captures;
+use crate::totals::{greatest_slots, total_aside, total_oversize, total_work};
 use crate::traffic::{is_nano, pace_of};
 use forward_table::{Table, TableFault, read_table};
 use pcap_records::{Capture, Link};
@@ -111,34 +114,38 @@ fn plan_of<R: Threads + Sync>(
     let pace = pace_of(settings.speed, &captures);
     let limits = Limits::of(settings.long, captures.len());
     let ports = port_plans(rt, alloc, table, pace, captures)?;
-    are_within(&limits, &ports)?;
-    Ok(plan_with(alloc, settings, nano, link, ports)?)
+    let brought = brought_by_ports(alloc, &ports)?;
+    are_within(&limits, &ports, &brought)?;
+    Ok(plan_with(alloc, settings, nano, link, ports, &brought)?)
 }
 
-// The plan of these ports. The only error is want of memory.
+// The plan of these ports, which bring so much. The only error is want of memory.
+#[tactic(auto, using(crate::proofs::PortSums::aside_is, crate::proofs::PortSums::oversize_is, crate::proofs::PortSums::ports_summable))]
 fn plan_with(
     alloc: Global,
     settings: &Settings,
     nano: bool,
     link: Link,
     ports: Vec<PortPlan>,
+    brought: &[Brought],
 ) -> Result<Plan, OutOfMemory>
-    requires { AreFit ports.items }
+    requires ports { AreFit ports.items }
+    requires brought { AreBroughtBy (packets_of_ports ports.items) brought.now }
     ensures { IfOk result (IsPlanWith settings.now nano link ports.items) }
 {
-    let slots = greatest_slots(&ports);
-    let cells = total_work(&ports);
-    let oversize = total_oversize(&ports);
-    let aside = total_aside(&ports);
+    let cells = total_work(brought);
+    let oversize = total_oversize(brought);
+    let aside = total_aside(brought);
+    let cards = cards_of(alloc, settings.depth, ports, brought)?;
     Ok(Plan {
         nano,
         link,
         rounds: settings.rounds,
         depth: settings.depth,
         workers: settings.workers,
-        max_slots: (slots + cells + 1) as u32,
+        max_slots: (greatest_slots(&cards) + cells + 1) as u32,
         oversize: oversize as u32,
         unrouted: (aside - oversize) as u32,
-        cards: cards_of(alloc, settings.depth, ports)?,
+        cards,
     })
 }

@@ -18,7 +18,6 @@ mod port_limits;
 mod port_plans;
 mod port_rooms;
 mod reading;
-mod rooms;
 mod totals;
 mod traffic;
 

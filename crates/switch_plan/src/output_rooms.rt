@@ -1,122 +1,87 @@
-ghost use Rattle.std.specs.Prelude.{◌≡◌, ◌+◌, ◌^◌, ◌<◌, ◌≤◌, ◌++◌, length, All, IfOk, OnOk};
+ghost use Rattle.std.specs.Prelude.{◌≡◌, ◌^◌, ◌<◌, ◌≤◌, length, map, flat_map, sum_by, IfOk};
 ghost use Rattle.switch_plan.specs.Totals.{total_work};
-ghost use Rattle.switch_plan.specs.PortSteps.{IsPlanned};
-ghost use Rattle.switch_plan.specs.OutputSteps.{IsRoomOf, AreRoomsOf};
-ghost use Rattle.switch_plan.specs.JobSteps.{packets_of_ports, AreCardsOf};
+ghost use Rattle.switch_plan.specs.OutputSteps.{room_at};
+ghost use Rattle.switch_plan.specs.PortSteps.{AreBroughtBy};
+ghost use Rattle.switch_plan.specs.JobSteps.{packets_of_ports, IsCardWith, AreCardsOf};
 
 use crate::port_plans::PortPlan;
-use crate::port_rooms::PortRoom;
+use crate::port_rooms::Brought;
+use crate::totals::{bytes_to, messages_to};
 use card_core::CardPlan;
 use reassembly::FLOWS_PER_INPUT;
 use rotating_pick::{MAX_PORTS, OutOfMemory};
 use std::alloc::{AllocError, Global};
-use std::mem::replace;
 
-/// What the packets of all ports bring to an output: the greatest message of each flow of each input, the
-/// bytes of all messages and their number.
-#[derive(Drop)]
-pub(crate) struct OutputRoom {
-    pub(crate) sizes: Vec<u32>,
-    pub(crate) bytes: u64,
-    pub(crate) messages: u64,
+/// What each of these ports brings. The only error is want of memory.
+pub(crate) fn brought_by_ports(
+    alloc: Global,
+    ports: &[PortPlan],
+) -> Result<Vec<Brought>, OutOfMemory>
+    ensures { IfOk result (λ brought. brought.items ≡ map (λ port. port.brought) ports.now) }
+{
+    let mut brought = Vec::with_capacity(alloc, ports.len())?;
+    for port in ports {
+        brought.push(port.brought)?;
+    }
+    Ok(brought)
 }
 
-/// The cards of all ports, with the rooms for what the packets of all of them bring to their outputs. The only
-/// error is want of memory.
+/// The cards of all ports, which bring so much, with the rooms for what the packets of all of them bring to their
+/// outputs. The only error is want of memory.
 pub(crate) fn cards_of(
     alloc: Global,
     depth: u32,
     ports: Vec<PortPlan>,
+    brought: &[Brought],
 ) -> Result<Vec<CardPlan>, OutOfMemory>
     requires few { length ports.items ≤ MAX_PORTS }
-    requires planned { All IsPlanned ports.items }
+    requires brought { AreBroughtBy (packets_of_ports ports.items) brought.now }
     requires work { total_work (packets_of_ports ports.items) < 2 ^ 32 }
     ensures { IfOk result (λ cards. AreCardsOf ports.items depth cards.items) }
 {
-    let mut rooms = output_rooms(alloc, &ports)?;
-    let count = ports.len() as u32;
     let mut cards = Vec::with_capacity(alloc, ports.len())?;
     for port in ports {
         let number = cards.len();
-        cards.push(card_of(alloc, count, number as u32, depth, port, &mut rooms[number]))?;
+        cards.push(card_of(alloc, number, depth, port, brought)?)?;
     }
     Ok(cards)
 }
 
-// The card of a port of a switch of `count` ports, which takes the packets of the port and the sizes of the room.
+// The card of a port, with the rooms for what all ports bring to its output.
 fn card_of(
     alloc: Global,
-    count: u32,
-    number: u32,
+    number: usize,
     depth: u32,
     port: PortPlan,
-    room: &mut OutputRoom,
-) -> CardPlan
-    requires { room.old.messages < 2 ^ 32 }
-    ensures { result ≡ record {
-      n = count;
-      card = number;
-      depth = depth;
-      packets = port.packets;
-      bytes = port.bytes;
-      sizes = room.old.sizes;
-      body_room = room.old.bytes;
-      packet_room = room.old.messages;
-    } }
+    brought: &[Brought],
+) -> Result<CardPlan, OutOfMemory>
+    requires number { number < MAX_PORTS }
+    requires few { length brought.now ≤ MAX_PORTS }
+    requires bytes { sum_by (λ port. (room_at port.rooms number).bytes) brought.now < 2 ^ 64 }
+    requires messages { sum_by (λ port. (room_at port.rooms number).messages) brought.now < 2 ^ 32 }
+    ensures { IfOk result (IsCardWith brought.now depth number port) }
 {
-    CardPlan {
-        n: count,
-        card: number,
+    Ok(CardPlan {
+        n: brought.len() as u32,
+        card: number as u32,
         depth,
         packets: port.packets,
         bytes: port.bytes,
-        sizes: replace(&mut room.sizes, Vec::new(alloc)),
-        body_room: room.bytes,
-        packet_room: room.messages as u32,
-    }
+        sizes: sizes_to(alloc, number, brought)?,
+        body_room: bytes_to(number, brought),
+        packet_room: messages_to(number, brought) as u32,
+    })
 }
 
-// What the packets of all ports bring to each output.
-fn output_rooms(alloc: Global, ports: &[PortPlan]) -> Result<Vec<OutputRoom>, OutOfMemory>
-    requires few { length ports.now ≤ MAX_PORTS }
-    requires planned { All IsPlanned ports.now }
-    ensures { IfOk result (λ rooms. AreRoomsOf (length ports.now) (packets_of_ports ports.now) rooms.items) }
-{
-    let mut rooms = Vec::with_capacity(alloc, ports.len())?;
-    for output in 0..ports.len() {
-        rooms.push(output_room(alloc, output, ports)?)?;
-    }
-    Ok(rooms)
-}
-
-// What they bring to one output.
-fn output_room(alloc: Global, output: usize, ports: &[PortPlan]) -> Result<OutputRoom, OutOfMemory>
+// The greatest messages of all flows of all ports to an output.
+fn sizes_to(alloc: Global, output: usize, brought: &[Brought]) -> Result<Vec<u32>, AllocError>
     requires output { output < MAX_PORTS }
-    requires few { length ports.now ≤ MAX_PORTS }
-    requires planned { All IsPlanned ports.now }
-    ensures { IfOk result (IsRoomOf output (packets_of_ports ports.now)) }
+    requires few { length brought.now ≤ MAX_PORTS }
+    ensures { IfOk result (λ sizes. sizes.items ≡ flat_map (λ port. (room_at port.rooms output).sizes) brought.now) }
 {
-    let mut room = OutputRoom {
-        sizes: Vec::with_capacity(alloc, ports.len() * FLOWS_PER_INPUT)?,
-        bytes: 0,
-        messages: 0,
-    };
-    for port in ports {
-        add_room(&mut room, &port.brought.rooms[output])?;
+    let mut sizes = Vec::with_capacity(alloc, brought.len() * FLOWS_PER_INPUT)?;
+    for port in brought {
+        sizes.extend_from_slice(&port.rooms[output].sizes)?;
     }
-    Ok(room)
-}
-
-// Takes what the packets of one more input bring to an output into account.
-fn add_room(room: &mut OutputRoom, more: &PortRoom) -> Result<(), AllocError>
-    requires bytes { room.old.bytes + more.now.bytes < 2 ^ 64 }
-    requires messages { room.old.messages + more.now.messages < 2 ^ 64 }
-    ensures sizes { OnOk result (room.new.sizes.items ≡ room.old.sizes.items ++ more.now.sizes) }
-    ensures bytes { OnOk result (room.new.bytes ≡ room.old.bytes + more.now.bytes) }
-    ensures messages { OnOk result (room.new.messages ≡ room.old.messages + more.now.messages) }
-{
-    room.sizes.extend_from_slice(&more.sizes)?;
-    room.bytes += more.bytes;
-    room.messages += more.messages;
-    Ok(())
+    Ok(sizes)
 }

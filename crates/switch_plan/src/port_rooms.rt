@@ -1,15 +1,19 @@
-ghost use Rattle.std.specs.Prelude.{◌≡◌, ℕ, ◌<◌, ◌≤◌, List, [], ◌∷◌, ◌++◌, max, slice_index, slice_set};
+ghost use Rattle.std.specs.Prelude.{◌≡◌, ◌≢◌, ℕ, ◌<◌, ◌≤◌, List, [], ◌∷◌, ◌++◌, max, slice_index, slice_set};
 ghost use Rattle.card_core.specs.declared.plan.Planned.{Planned as APlanned};
+ghost use Rattle.switch_plan.specs.Totals.{work_of, flow_of};
 ghost use Rattle.switch_plan.specs.CountingSteps.{IsForwardable, AreCountable};
 ghost use Rattle.switch_plan.specs.OutputSteps.{room_at, with_message, with_packet, AreFew};
 ghost use Rattle.switch_plan.specs.PortSteps.{IsBroughtBy, HasRoom};
 
-use crate::rooms::flow_of;
-use crate::totals::work_of;
 use card_core::Planned;
-use cell_cutter::{MAX_FORWARDED_BYTES, MAX_MESSAGE_BYTES, MESSAGE_HEADER_BYTES};
+use cell_cutter::{
+    MAX_FORWARDED_BYTES, MAX_FORWARDED_CELLS, MAX_MESSAGE_BYTES, MESSAGE_HEADER_BYTES, cells_of,
+};
 use reassembly::FLOWS_PER_INPUT;
-use rotating_pick::{MAX_PORTS, PORT_COUNT, is_empty, lowest, without};
+use rotating_pick::{MAX_PORTS, PORT_COUNT, is_empty, lowest, only, without};
+
+// The most cells that a packet brings to all outputs.
+const MAX_WORK: u64 = MAX_FORWARDED_CELLS as u64 * MAX_PORTS as u64;
 
 /// What the packets of a port bring to an output: the greatest message of each flow, the bytes of all
 /// messages and their number.
@@ -46,8 +50,8 @@ pub(crate) fn brought_by(packets: &[Planned]) -> Brought
 }
 
 impl Brought {
-    // What no packet brings.
-    fn nothing() -> Brought
+    /// What no packet brings.
+    pub(crate) fn nothing() -> Brought
         ensures { IsBroughtBy [] result }
     {
         let none = PortRoom {
@@ -74,6 +78,30 @@ impl Brought {
         self.aside += u64::from(packet.fan == 0);
         self.work += work_of(packet);
         add_packet(&mut self.rooms, packet);
+    }
+}
+
+// The cells that a packet brings to its outputs.
+fn work_of(packet: &Planned) -> u64
+    requires { IsForwardable packet.now }
+    ensures value { result ≡ work_of packet.now }
+    ensures few { result ≤ MAX_WORK }
+{
+    if is_empty(packet.fan) {
+        return 0;
+    }
+    u64::from(cells_of(packet.len)) * u64::from(packet.fan.count_ones())
+}
+
+// The flow of a packet among those of its input: an even number for unicast, an odd one for multicast.
+fn flow_of(packet: &Planned) -> usize
+    requires { packet.now.fan ≢ 0 }
+    ensures { result ≡ flow_of packet.now }
+{
+    let unicast = 2 * usize::from(packet.level);
+    match only(packet.fan) {
+        Some(_) => unicast,
+        None => unicast + 1,
     }
 }
 

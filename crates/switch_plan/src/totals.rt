@@ -1,82 +1,61 @@
-ghost use Rattle.std.specs.Prelude.{◌≡◌, ◌≢◌, ◌==◌, ◌*◌, ◌<◌, ◌≤◌, length, All, sum_by, count_by};
-ghost use Rattle.switch_plan.specs.Totals.{work_of, total_work, total_aside, slots_of, greatest_slots};
-ghost use Rattle.switch_plan.specs.CountingSteps.{IsForwardable, AreCountable, packets_of_cards};
+ghost use Rattle.std.specs.Prelude.{◌≡◌, ◌^◌, ◌<◌, sum_by};
+ghost use Rattle.switch_plan.specs.Totals.{slots_of, greatest_slots};
+ghost use Rattle.switch_plan.specs.CountingSteps.{packets_of_cards};
+ghost use Rattle.switch_plan.specs.OutputSteps.{room_at};
+ghost use Rattle.switch_plan.specs.PortSteps.{AreSummable};
 
-use crate::limits::MAX_PORT_PACKETS;
+use crate::port_rooms::Brought;
 use card_core::{CardPlan, Planned};
-use cell_cutter::{MAX_FORWARDED_CELLS, cells_of};
-use rotating_pick::{MAX_PORTS, is_empty};
+use rotating_pick::MAX_PORTS;
 
-// The most cells that a packet brings to all outputs.
-const MAX_WORK: u64 = MAX_FORWARDED_CELLS as u64 * MAX_PORTS as u64;
-
-// The most that the packets of a port bring.
-const MAX_PORT_WORK: u64 = MAX_PORT_PACKETS as u64 * MAX_WORK;
-
-/// The cells that a packet brings to its outputs.
-pub(crate) fn work_of(packet: &Planned) -> u64
-    requires { IsForwardable packet.now }
-    ensures value { result ≡ work_of packet.now }
-    ensures few { result ≤ MAX_WORK }
+/// The cells that all ports bring to their outputs.
+pub(crate) fn total_work(brought: &[Brought]) -> u64
+    requires { AreSummable brought.now }
+    ensures { result ≡ sum_by (λ port. port.work) brought.now }
 {
-    if is_empty(packet.fan) {
-        return 0;
-    }
-    u64::from(cells_of(packet.len)) * u64::from(packet.fan.count_ones())
+    brought.iter().map(|port| port.work).sum()
 }
 
-// The cells that the packets of a port bring to their outputs.
-fn port_work(packets: &[Planned]) -> u64
-    requires { AreCountable packets.now }
-    ensures value { result ≡ sum_by work_of packets.now }
-    ensures few { result ≤ MAX_PORT_WORK }
+/// How many packets of all ports go nowhere.
+pub(crate) fn total_aside(brought: &[Brought]) -> u64
+    requires { AreSummable brought.now }
+    ensures { result ≡ sum_by (λ port. port.aside) brought.now }
 {
-    let mut work = 0;
-    for packet in packets {
-        work += work_of(packet);
-    }
-    work
+    brought.iter().map(|port| port.aside).sum()
 }
 
-/// The cells that the packets of all cards bring to their outputs.
-pub(crate) fn total_work(cards: &[CardPlan]) -> u64
-    requires few { length cards.now ≤ MAX_PORTS }
-    requires packets { All AreCountable (packets_of_cards cards.now) }
-    ensures { result ≡ total_work (packets_of_cards cards.now) }
+/// How many packets of all ports are too long to be forwarded.
+pub(crate) fn total_oversize(brought: &[Brought]) -> u64
+    requires { AreSummable brought.now }
+    ensures { result ≡ sum_by (λ port. port.oversize) brought.now }
 {
-    let mut work = 0;
-    for card in cards {
-        work += port_work(&card.packets);
-    }
-    work
+    brought.iter().map(|port| port.oversize).sum()
 }
 
-// How many packets of a port go nowhere.
-fn port_aside(packets: &[Planned]) -> u64
-    requires { length packets.now ≤ MAX_PORT_PACKETS }
-    ensures value { result ≡ count_by (λ packet. packet.fan == 0) packets.now }
-    ensures few { result ≤ MAX_PORT_PACKETS }
+/// The bytes of all messages to an output.
+pub(crate) fn bytes_to(output: usize, brought: &[Brought]) -> u64
+    requires output { output < MAX_PORTS }
+    requires fit { sum_by (λ port. (room_at port.rooms output).bytes) brought.now < 2 ^ 64 }
+    ensures { result ≡ sum_by (λ port. (room_at port.rooms output).bytes) brought.now }
 {
-    let mut aside = 0;
-    for packet in packets {
-        if packet.fan == 0 {
-            aside += 1;
-        }
+    let mut bytes = 0;
+    for port in brought {
+        bytes += port.rooms[output].bytes;
     }
-    aside
+    bytes
 }
 
-/// How many packets of all cards go nowhere.
-pub(crate) fn total_aside(cards: &[CardPlan]) -> u64
-    requires few { length cards.now ≤ MAX_PORTS }
-    requires packets { All AreCountable (packets_of_cards cards.now) }
-    ensures { result ≡ total_aside (packets_of_cards cards.now) }
+/// The number of all messages to an output.
+pub(crate) fn messages_to(output: usize, brought: &[Brought]) -> u64
+    requires output { output < MAX_PORTS }
+    requires fit { sum_by (λ port. (room_at port.rooms output).messages) brought.now < 2 ^ 64 }
+    ensures { result ≡ sum_by (λ port. (room_at port.rooms output).messages) brought.now }
 {
-    let mut aside = 0;
-    for card in cards {
-        aside += port_aside(&card.packets);
+    let mut messages = 0;
+    for port in brought {
+        messages += port.rooms[output].messages;
     }
-    aside
+    messages
 }
 
 // The arrival slots of a port: the last packet's and one.

@@ -1,13 +1,12 @@
 use Rattle.std.proofs.Common.{refl, arith}
 use Rattle.std.proofs.lemmas.Option.{slice_get_within}
-use Rattle.switch_plan.specs.CountingSteps.{packets_of_cards}
-use Rattle.switch_plan.specs.CheckingSteps.{IsSizedFor}
+use Rattle.switch_plan.specs.PortSteps.{HasRooms}
 use Rattle.switch_plan.proofs.Totalling.{each_next}
 use Rattle.switch_plan.proofs.checking.are_sized.Goals as goal
 
 pub loop-output-preserved : goal.loop-output-preserved
 loop-output-preserved c =
-    each_next (IsSizedFor (packets_of_cards c.args.cards.now)) c.args.cards.now c.loop-output.output c.index-cards-output.result c.index-cards-output.is
+    each_next (HasRooms c.args.brought.now) c.args.cards.now c.loop-output.output c.index-cards-output.result c.index-cards-output.is
     c.loop-output.invariant (c.is_sized.ensures.0 c.if-not-is_sized.false)
 
 pub returns : goal.returns

@@ -1,14 +1,14 @@
-use Rattle.std.proofs.Common.{◌≡◌, ◌∙◌, List, length, None, ap, sym, subst, arith, inr}
-use Rattle.std.specs.Prelude.{map, All}
+use Rattle.std.proofs.Common.{◌≡◌, ◌∙◌, List, length, None, refl, ap, sym, subst, arith, inr}
+use Rattle.std.specs.Prelude.{map}
 use Rattle.std.proofs.lemmas.Result.{err_from_is_err_and}
 use Rattle.pcap_records.specs.declared.capture.Capture.{Capture}
 use Rattle.forward_table.specs.Routes.{AreRoutesOf}
 use Rattle.switch_plan.specs.declared.port_plans.PortPlan.{PortPlan}
 use Rattle.switch_plan.specs.Traffic.{file_of, is_nano, pace_of}
 use Rattle.switch_plan.specs.Refusals.{first_link, mixed_links, terms_of}
-use Rattle.switch_plan.specs.PortSteps.{IsPlanned}
 use Rattle.switch_plan.specs.JobSteps.{over_ports}
 use Rattle.switch_plan.proofs.Alike.{can_be_planned}
+use Rattle.switch_plan.proofs.PortSums.{ports_bring}
 use Rattle.switch_plan.proofs.JobPorts.{AreOfJob, planned_all, ports_fit}
 use Rattle.switch_plan.proofs.WhyRefused.{refusal_is}
 use Rattle.switch_plan.proofs.Goods.{job_plan}
@@ -27,13 +27,22 @@ are_within-requires-clause-few g c =
     let count = c.in_ok-ports.ensures.count in
     let few = c.requires.few in
     let ok = c.args.captures.ok.0 in
-    let same = ap (λ (all : List PortPlan). length all) c.deref-4.ensures.value in
+    let same = ap (λ (all : List PortPlan). length all) c.deref-5.ensures.value in
     omega arith
 
-pub are_within-requires-clause-planned : goal.are_within-requires-clause-planned
-are_within-requires-clause-planned g c =
-    subst (λ (all : List PortPlan). All IsPlanned all) (sym c.deref-4.ensures.value)
-    (planned_all c.args.table.now c.pace_of-pace.result c.args.captures.items c.in_ok-ports.ports.items c.in_ok-ports.ensures)
+pub are_within-requires-clause-brought : goal.are_within-requires-clause-brought
+are_within-requires-clause-brought g c =
+    let ports = c.in_ok-ports.ports.items in
+    ports_bring ports c.deref-5.result.now c.deref-6.result.now
+    (planned_all c.args.table.now c.pace_of-pace.result c.args.captures.items ports c.in_ok-ports.ensures) c.deref-5.ensures.value
+    (c.deref-6.ensures.value ∙ c.in_ok-brought.ensures ∙ ap (λ (all : List PortPlan). map (λ (port : PortPlan). port.brought) all) c.deref-4.ensures.value)
+
+pub plan_with-requires-clause-brought : goal.plan_with-requires-clause-brought
+plan_with-requires-clause-brought g c =
+    let ports = c.in_ok-ports.ports.items in
+    ports_bring ports ports c.deref-7.result.now
+    (planned_all c.args.table.now c.pace_of-pace.result c.args.captures.items ports c.in_ok-ports.ensures) refl
+    (c.deref-7.ensures.value ∙ c.in_ok-brought.ensures ∙ ap (λ (all : List PortPlan). map (λ (port : PortPlan). port.brought) all) c.deref-4.ensures.value)
 
 pub returns-in_err-are_within-clause-refused : goal.returns-in_err-are_within-clause-refused
 returns-in_err-are_within-clause-refused g c =
@@ -49,11 +58,11 @@ returns-in_err-are_within-clause-refused g c =
     rw (fault.1, fault.2)
     (inr (refusal_is c.args.table.now (terms_of settings) c.pace_of-pace.result n captures c.in_ok-ports.ports.items n_is pace_is unmixed c.in_ok-ports.ensures
     ∙ ap (λ limits. over_ports limits c.in_ok-ports.ports.items) (sym c.of-limits.ensures)
-    ∙ ap (λ (all : List PortPlan). over_ports c.of-limits.result all) (sym c.deref-4.ensures.value)
+    ∙ ap (λ (all : List PortPlan). over_ports c.of-limits.result all) (sym c.deref-5.ensures.value)
     ∙ c.in_err-are_within.ensures.over))
 
-pub plan_with-requires : goal.plan_with-requires
-plan_with-requires g c =
+pub plan_with-requires-clause-ports : goal.plan_with-requires-clause-ports
+plan_with-requires-clause-ports g c =
     let settings = c.args.settings.now in
     let captures = c.args.captures.items in
     let n_is : c.len.result ≡ length captures = let ok = c.args.captures.ok.0 in let len = c.len.ensures in omega arith in
@@ -66,7 +75,7 @@ plan_with-requires g c =
       read = c.requires.read;
       ports_are = c.in_ok-ports.ensures;
       within = ap (λ limits. over_ports limits c.in_ok-ports.ports.items) (sym c.of-limits.ensures)
-          ∙ ap (λ (all : List PortPlan). over_ports c.of-limits.result all) (sym c.deref-4.ensures.value)
+          ∙ ap (λ (all : List PortPlan). over_ports c.of-limits.result all) (sym c.deref-5.ensures.value)
           ∙ c.in_ok-are_within.ensures.within;
     } in
     ports_fit job
@@ -85,7 +94,7 @@ returns-clause-plan g c =
       read = c.requires.read;
       ports_are = c.in_ok-ports.ensures;
       within = ap (λ limits. over_ports limits c.in_ok-ports.ports.items) (sym c.of-limits.ensures)
-          ∙ ap (λ (all : List PortPlan). over_ports c.of-limits.result all) (sym c.deref-4.ensures.value)
+          ∙ ap (λ (all : List PortPlan). over_ports c.of-limits.result all) (sym c.deref-5.ensures.value)
           ∙ c.in_ok-are_within.ensures.within;
     } in
     job_plan job c.requires.settings (let some = c.requires.some in let ok = c.args.captures.ok.0 in omega (arith, n_is))

@@ -1,11 +1,9 @@
-use Rattle.std.proofs.Common.{◌≡◌, ◌≤◌, ◌++◌, ℕ, Some, length}
+use Rattle.std.proofs.Common.{◌≡◌, ◌++◌, ℕ, Some, length}
 use Rattle.std.specs.Prelude.{slice_get}
 use Rattle.std.specs.Vec.Iter.{into_iter_items, into_iter_len}
 use Rattle.card_core.specs.declared.plan.CardPlan.{CardPlan}
 use Rattle.switch_plan.specs.declared.port_plans.PortPlan.{PortPlan}
-use Rattle.switch_plan.specs.declared.output_rooms.OutputRoom.{OutputRoom}
-use Rattle.switch_plan.specs.OutputSteps.{IsRoomOf}
-use Rattle.switch_plan.specs.JobSteps.{packets_of_ports, IsCardOfPort}
+use Rattle.switch_plan.specs.JobSteps.{IsCardOfPort}
 use Rattle.switch_plan.proofs.output_rooms.cards_of.Given as goal
 
 abbrev pub invariant-loop-port : goal.invariant-loop-port
@@ -15,7 +13,4 @@ invariant-loop-port l = record {
   made : length l.cards.items ≡ length l.yielded;
   cards : (k : ℕ) (port : PortPlan) (card : CardPlan) → slice_get l.yielded k ≡ Some port → slice_get l.cards.items k ≡ Some card
       → IsCardOfPort l.fn.ports.items l.depth k port card;
-  many : length l.rooms.items ≡ length l.fn.ports.items;
-  rooms : (output : ℕ) (room : OutputRoom) → length l.yielded ≤ output → slice_get l.rooms.items output ≡ Some room
-      → IsRoomOf output (packets_of_ports l.fn.ports.items) room;
 }

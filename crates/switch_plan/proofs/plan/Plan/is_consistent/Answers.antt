@@ -1,25 +1,23 @@
-use Rattle.std.proofs.Common.{List, length, sym, subst}
-use Rattle.card_core.specs.declared.plan.CardPlan.{CardPlan}
+use Rattle.std.proofs.Common.{length, take, arith}
 use Rattle.switch_plan.specs.CountingSteps.{packets_of_cards}
-use Rattle.switch_plan.specs.CheckingSteps.{AreSized, AreTotals}
+use Rattle.switch_plan.proofs.Summing.{cards_long}
+use Rattle.switch_plan.proofs.PortSums.{summable}
+use Rattle.switch_plan.proofs.Checked.{consistent_where}
 use Rattle.switch_plan.proofs.plan.Plan.is_consistent.Goals as goal
-use Rattle.switch_plan.proofs.plan.Plan.is_consistent.Goals.{then-are_totals, else-are_totals, then-has_aside, else-has_aside}
 
-pub returns-else-are_sized : goal.returns-else-are_sized
-returns-else-are_sized c =
-    let no_ = c.if-are_sized.false in (
-      λ yes_. absurd (cc),
-      λ all. elim c.if-has_aside.branch [
-        | then-has_aside w ↦
-            let yes_ = w.are_sized.ensures.1 (subst (λ (cards : List CardPlan). AreSized cards) (sym w.deref-then-has_aside.ensures.value) all.sized) in
-            absurd (cc)
-        | else-has_aside w ↦ elim c.if-are_totals.branch [
-          | then-are_totals v ↦ let yes_ = v.has_aside.ensures.1 all.aside in absurd (cc)
-          | else-are_totals v ↦
-              let yes_ = c.are_totals.ensures.1
-              (subst (λ (cards : List CardPlan). AreTotals (length cards) c.args.self.now.max_slots (packets_of_cards cards))
-              (sym c.deref.ensures.value) all.totals) in
-              absurd (cc)
-        ]
-      ],
-    )
+pub fits-requires-clause-fit : goal.fits-requires-clause-fit
+fits-requires-clause-fit c =
+    let cards = c.deref-cards.result.now in
+    let few = c.requires.few in
+    let long = c.deref-cards.ensures.len in
+    summable (packets_of_cards cards) (take (length cards) c.brought_by_cards-brought.result) (omega (arith, few, long, cards_long cards))
+    c.brought_by_cards-brought.ensures
+
+pub returns : goal.returns
+returns c =
+    let cards = c.deref-cards.result.now in
+    let few = c.requires.few in
+    let long = c.deref-cards.ensures.len in
+    let is = consistent_where c.args.self.now cards (take (length cards) c.brought_by_cards-brought.result) c.deref-cards.ensures.value
+    (omega (arith, few, long)) c.brought_by_cards-brought.ensures in
+    (λ yes_. is.0 (c.fits.ensures.0 yes_), λ all. c.fits.ensures.1 (is.1 all))
