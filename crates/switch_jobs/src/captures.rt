@@ -7,19 +7,43 @@ use byteorder::{BigEndian, ByteOrder, LittleEndian};
 use card_core::CardOut;
 use pcap_records::{FILE_HEADER_BYTES, Link, RECORD_HEADER_BYTES, write_header};
 use rotating_pick::OutOfMemory;
-use std::alloc::AllocError;
+use std::alloc::{AllocError, Global};
 
 /// The output capture of what a card leaves: a record for each message, of nanoseconds where `nano` says so
-/// and else of microseconds. The messages have 16 to 65,551 bytes and are all of the body. Each becomes its
-/// record where it stands, behind room for the header. The only error is want of memory.
-pub fn output_bytes(card: CardOut, nano: bool, link: Link) -> Result<Vec<u8>, OutOfMemory>
+/// and else of microseconds. The messages have 16 to 65,551 bytes and are all of the body. The only error
+/// is want of memory.
+pub fn output_bytes(
+    alloc: Global,
+    card: &CardOut,
+    nano: bool,
+    link: Link,
+) -> Result<Vec<u8>, OutOfMemory>
+    requires { IsCut card.now }
+    ensures { (messages : List (List ℕ)) → card.now.body.items ≡ concat messages → card.now.lens.items ≡ map length messages
+        → IfOk result (λ bytes. bytes.items ≡ capture_text nano link messages) }
+{
+    let mut body = Vec::with_capacity(alloc, FILE_HEADER_BYTES + card.body.len())?;
+    body.extend_from_slice(&card.body)?;
+    capture_in(body, &card.lens, nano, link)
+}
+
+/// The same of a card that is let go: each message becomes its record where it stands, behind room for the header.
+pub fn into_capture(card: CardOut, nano: bool, link: Link) -> Result<Vec<u8>, OutOfMemory>
     requires { IsCut card }
     ensures { (messages : List (List ℕ)) → card.body.items ≡ concat messages → card.lens.items ≡ map length messages
         → IfOk result (λ bytes. bytes.items ≡ capture_text nano link messages) }
 {
-    let CardOut { body, lens, .. } = card;
+    capture_in(card.body, &card.lens, nano, link)
+}
+
+// The capture of the messages of this body, which have these lengths. The only error is want of memory.
+fn capture_in(body: Vec<u8>, lens: &[u32], nano: bool, link: Link) -> Result<Vec<u8>, OutOfMemory>
+    requires { AreLengths lens.now (length body.items) }
+    ensures { (messages : List (List ℕ)) → body.items ≡ concat messages → lens.now ≡ map length messages
+        → IfOk result (λ bytes. bytes.items ≡ capture_text nano link messages) }
+{
     let mut bytes = body;
-    turn_messages(&mut bytes, &lens, nano);
+    turn_messages(&mut bytes, lens, nano);
     put_header(&mut bytes, nano, link)?;
     Ok(bytes)
 }

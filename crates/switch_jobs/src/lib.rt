@@ -11,7 +11,7 @@ mod running;
 mod sharing;
 mod summaries;
 
-pub use captures::output_bytes;
+pub use captures::{into_capture, output_bytes};
 pub use meters::longest_of;
 pub use ready::{Ready, Terms};
 pub use running::{run_job, run_ready, run_ready_with};

@@ -10,7 +10,7 @@ use pcap_records::Link;
 use rotating_pick::OutOfMemory;
 use slot_report::OutLine;
 use std::alloc::{AllocError, Global};
-use switch_jobs::output_bytes;
+use switch_jobs::into_capture;
 
 /// The capture of each output of a board. Each output is let go once its capture is made.
 pub(crate) fn output_captures(
@@ -25,7 +25,7 @@ pub(crate) fn output_captures(
 {
     let mut captures = Vec::new(alloc);
     for output in outputs {
-        captures.push(output_bytes(output, nano, link)?)?;
+        captures.push(into_capture(output, nano, link)?)?;
     }
     Ok(captures)
 }

@@ -10,8 +10,8 @@ use Rattle.switch_jobs.specs.Captures.{IsCut}
 use Rattle.job_files.proofs.InputFiles.{bytes_pushed}
 use Rattle.switch_run.proofs.captures.output_captures.Goals as goal
 
-pub output_bytes-requires : goal.output_bytes-requires
-output_bytes-requires c =
+pub into_capture-requires : goal.into_capture-requires
+into_capture-requires c =
     let at = c.loop-output in
     let x = c.in-Some.output in
     let outputs = c.args.outputs.items in
@@ -39,10 +39,10 @@ loop-output-preserved c =
           let text : ℕ → List ℕ = λ j. capture_text c.args.nano c.args.link (messages j) in
           let whole : at.yielded ++ rest ≡ outputs = at.invariant.rest ∙ c.into_iter-output-iterator.ensures.into_iter_gives.0 in
           let got = have k x (here_of at.yielded rest (into_iter_items c.next.new.self) outputs x whole steps) in
-          let bytes = c.in_ok-output_bytes.ensures (messages k) got.0 got.1 in
+          let bytes = c.in_ok-into_capture.ensures (messages k) got.0 got.1 in
           let more : length (at.yielded ++ x ∷ []) ≡ k + 1 = omega (arith, length-append at.yielded (x ∷ [])) in
-          bytes_pushed c.push.result c.push.new.self at.captures c.in_ok-output_bytes.field-0 c.push.ensures.items (ap is_ok c.in_ok-push.was)
-          ∙ ap (λ (texts : List (List ℕ)). texts ++ c.in_ok-output_bytes.field-0.items ∷ []) (at.invariant.captures messages have)
+          bytes_pushed c.push.result c.push.new.self at.captures c.in_ok-into_capture.field-0 c.push.ensures.items (ap is_ok c.in_ok-push.was)
+          ∙ ap (λ (texts : List (List ℕ)). texts ++ c.in_ok-into_capture.field-0.items ∷ []) (at.invariant.captures messages have)
           ∙ ap (λ (one : List ℕ). map text (range_with_len 0 k) ++ one ∷ []) bytes
           ∙ sym (map-range_with_len_more text 0 k k (omega arith))
           ∙ ap (λ (n : ℕ). map text (range_with_len 0 n)) (sym more);
