@@ -1,10 +1,10 @@
-//! Rows of arrival slots: `NAME PACE PACKETS -> SLOTS`, or `-> too_long SLOTS`. A pace is `line`,
-//! `SLOT:BASE` or `rate=MBPS:BASE`, a packet `TIME:CELLS`.
+//! Rows of arrival slots: `NAME PACE PACKETS -> SLOTS`, or `-> too_long SLOTS`; without a limit
+//! `-> SLOTS slots COUNT`. A pace is `line`, `SLOT:BASE` or `rate=MBPS:BASE`, a packet `TIME:CELLS`.
 ghost use Rattle.std.specs.Prelude.{◌≡◌, ◌≤◌, ◌<◌, length, All, IfOk, IsTrue};
 ghost use Rattle.line_pace.specs.Arrivals.{IsPace, IsRateTime, CanCome, base_of};
 
 use crate::fields::long_number;
-use crate::texts::numbers_text;
+use crate::texts::{add_item, numbers_text};
 use cell_cutter::MAX_CAPTURED_CELLS;
 use line_pace::{
     MAX_CAPTURE_PACKETS, MAX_LINE_RATE, MAX_SLOT_MICROS, Pace, PaceFault, Stamp, arrivals,
@@ -39,6 +39,43 @@ fn slots_text(alloc: Global, pace_text: &str, packets_text: &str) -> Result<Stri
         Err(PaceFault::TooLong { slots }) => Ok(format!(in alloc; "too_long {slots}")?),
         Err(PaceFault::OutOfMemory) => Err(NoAnswer),
     }
+}
+
+/// The row that a line is, where a port may have any number of slots.
+pub fn row_without_limit(alloc: Global, line: &str) -> Result<Row, AllocError> {
+    match line.split_once(" -> ") {
+        Some((question, stated)) => Row::new(alloc, stated, answer_without_limit(alloc, question)),
+        None => Row::unread(alloc, line),
+    }
+}
+
+fn answer_without_limit(alloc: Global, question: &str) -> Result<String, NoAnswer> {
+    let words = words(alloc, question)?;
+    let [_, pace_text, packets_text] = words.as_slice() else {
+        return Err(NoAnswer);
+    };
+    let pace = pace(pace_text)?;
+    let packets = packets(alloc, packets_text, &pace)?;
+    slots_one_by_one(alloc, packets.as_slice(), &pace)
+}
+
+// The arrival slots and their number, asked for packet by packet.
+fn slots_one_by_one(alloc: Global, packets: &[Stamp], pace: &Pace) -> Result<String, NoAnswer>
+    requires pace { IsPace pace.now }
+    requires packets { All (CanCome pace.now) packets.now }
+    requires few { length packets.now ≤ MAX_CAPTURE_PACKETS }
+{
+    let mut slots = String::new(alloc);
+    let mut free = 0;
+    for packet in packets {
+        let arrival = pace.arrival(free, packet);
+        add_item(&mut slots, format!(in alloc; "{arrival}")?.as_str())?;
+        free = arrival + 1;
+    }
+    if slots.is_empty() {
+        slots.push('-')?;
+    }
+    Ok(format!(in alloc; "{slots} slots {free}")?)
 }
 
 fn pace(text: &str) -> Result<Pace, NoAnswer>

@@ -25,12 +25,23 @@ TABLE_FAULTS = {
 
 
 def arrivals(question: str) -> str:
-    """`NAME PACE PACKETS`: the arrival slots."""
+    """`NAME PACE PACKETS`: the arrival slots, or how many are too many."""
+    slots = arrival_slots(question)
+    return f"too_long {slots_of(slots)}" if slots_of(slots) > MOST_SLOTS else forms.numbers(slots) or forms.NONE
+
+
+def arrivals_without_limit(question: str) -> str:
+    """`NAME PACE PACKETS`: the arrival slots, and how many slots they take."""
+    slots = arrival_slots(question)
+    return f"{forms.numbers(slots) or forms.NONE} slots {slots_of(slots)}"
+
+
+def arrival_slots(question: str) -> List[int]:
+    """The arrival slots of the packets of `NAME PACE PACKETS`."""
     _, pace, packets = question.split()
     parts = (it.split(":") for it in packets.split(",")) if packets != forms.NONE else ()
     stamps = [(int(time), int(cells)) for time, cells in parts]
-    slots = arrivals_of(stamps, **speed_of(pace))
-    return f"too_long {slots_of(slots)}" if slots_of(slots) > MOST_SLOTS else forms.numbers(slots) or forms.NONE
+    return arrivals_of(stamps, **speed_of(pace))
 
 
 def speed_of(pace: str) -> Dict[str, int]:
@@ -193,7 +204,8 @@ def message(question: str) -> str:
 
 
 REMAKES = {
-    **dict.fromkeys(("arrivals", "arrivals_at_line_rate"), arrowed(arrivals)), "limits": arrowed(limits),
+    **dict.fromkeys(("arrivals", "arrivals_at_line_rate"), arrowed(arrivals)),
+    "arrivals_without_limit": arrowed(arrivals_without_limit), "limits": arrowed(limits),
     **dict.fromkeys(("captures", "captures_changed"), by_lines(CaptureRows)),
     "destinations": by_lines(DestinationRows), "tables": by_lines(TableRows), "cells": by_lines(CellRows),
     "reassembly": by_lines(ReassemblyRows), "messages": arrowed(message),
