@@ -12,6 +12,7 @@ use Rattle.eslip_rounds.specs.Schedulers.{Scheduler, IsScheduler}
 use Rattle.eslip_rounds.specs.Decisions.{decision_of}
 use Rattle.eslip_rounds.proofs.Scheduling.{IsScheduler-decision_of}
 use Rattle.slot_match.specs.Parts.{served_of}
+use Rattle.slot_match.specs.declared.rows.Row.{Row}
 use Rattle.card_core.specs.Posts.{IsServable}
 use Rattle.slot_histories.specs.Answers.{JournalSlot}
 use Rattle.board_state.specs.Boards.{no_slot}
@@ -110,11 +111,10 @@ writer_below scheduler plan t slots is_wanted scheduling good burst ends below (
 pub may_note_slot : (scheduler : Scheduler) (plan : SwitchPlan) (t : ℕ) (reference : Option State) (posts : List Post) (matched : Matched)
     → IsSlotUnder scheduler plan t posts matched
     → ((r : State) → IsReferenceAfter scheduler plan t r → MayNote r (run_rows_under scheduler plan t) (slot_under scheduler plan t).matched)
-    → IfSome reference (IsReferenceAfter scheduler plan t) → IfSome reference (λ r. MayNote r (map (λ post. post.row) posts) matched)
+    → IfSome reference (IsReferenceAfter scheduler plan t) → IfSome reference (λ r. (rows : List Row) × MayNote r rows matched)
 may_note_slot scheduler plan t None posts matched is may none = none
 may_note_slot scheduler plan t (Some r) posts matched is may noted =
-    subst (λ (p : List Post). MayNote r (map (λ post. post.row) p) matched) (sym is.posts_are)
-    (subst (MayNote r (run_rows_under scheduler plan t)) (sym is.matched_is) (may r noted))
+    (run_rows_under scheduler plan t, subst (MayNote r (run_rows_under scheduler plan t)) (sym is.matched_is) (may r noted))
 
 -- the journal of a run has as many slots as the run
 pub count_of_run : (plan : SwitchPlan) (slots : ℕ) (journal : List JournalSlot) → journal ≡ run_journal plan slots → length journal ≡ slots

@@ -28,21 +28,18 @@ use queue_measures::QueueMeasures;
 use rotating_pick::OutOfMemory;
 use run_sinks::SlotSink;
 use slot_board::Journal;
-use slot_match::{Match, Row};
+use slot_match::Match;
 use std::alloc::Global;
 use std::marker::Model;
 use switch_plan::Plan;
 
-/// What is noted of a run, slot by slot, for the texts that are wanted of it. Of the posts no more is kept than the rows of
-/// one slot.
+/// What is noted of a run, slot by slot, for the texts that are wanted of it. No post is kept.
 #[derive(Drop)]
 pub struct RunNotes {
     wanted: Wanted,
     slots: Option<String>,
     journal: Option<JournalWriter>,
     reference: Option<Reference>,
-    // Room for the rows of a slot, for the reference.
-    rows: Vec<Row>,
     queues: Option<QueueMeasures>,
     packets: Option<PacketTimes>,
 }
@@ -83,7 +80,6 @@ impl RunNotes {
             slots,
             journal,
             reference,
-            rows: Vec::new(alloc),
             queues,
             packets,
         })
@@ -167,7 +163,7 @@ impl SlotSink for RunNotes {
         reference_run::laws::slots_may_be_noted();
         put_line_of(&mut self.slots, slot, matched, numbers)?;
         put_slot_into(&mut self.journal, posts, matched)?;
-        note_matched(&mut self.reference, &mut self.rows, posts, matched)?;
+        note_matched(&mut self.reference, matched);
         note_queues(&mut self.queues, slot, posts, matched);
         note_times(&mut self.packets, slot, posts, matched)
     }

@@ -1,6 +1,7 @@
-ghost use Rattle.std.specs.Prelude.{◌≡◌, ◌<◌, ◌+◌, ◌^◌, ◌∷◌, ◌++◌, ℕ, Bool, if◌then◌else◌, List, [], map, replicate, IfOk, IfSome, OnOk, string_bytes};
+ghost use Rattle.std.specs.Prelude.{◌≡◌, ◌<◌, ◌+◌, ◌^◌, ◌∷◌, ◌++◌, ℕ, Bool, if◌then◌else◌, List, [], map, replicate, IfOk, IfSome, string_bytes};
 ghost use Rattle.std.specs.List.{range_with_len};
 ghost use Rattle.slot_match.specs.Matches.{unmatched};
+ghost use Rattle.slot_match.specs.declared.rows.Row.{Row};
 ghost use Rattle.eslip_rounds.specs.Schedulers.{Scheduler};
 ghost use Rattle.slot_report.specs.Lines.{lines_text};
 ghost use Rattle.switch_plan.specs.GoodPlans.{SwitchPlan, IsGood, IsCountable, switch_plan_of};
@@ -13,11 +14,10 @@ ghost use Rattle.reference_run.specs.MeetingSteps.{IsReferenceOf};
 ghost use Rattle.reference_run.specs.RunLines.{run_lines_under};
 ghost use Rattle.run_notes.specs.NotingSteps.{IsKept, IsReferenceAfter};
 
-use crossbar::Post;
 use output_queued::{RefLine, Reference, reference_text};
 use reference_run::reference_of;
 use rotating_pick::OutOfMemory;
-use slot_match::{Match, Row};
+use slot_match::Match;
 use std::alloc::{AllocError, Global};
 use switch_plan::Plan;
 
@@ -38,22 +38,15 @@ pub(crate) fn reference_for(
     }
 }
 
-/// Notes the next slot, where the reference is wanted. The posts' rows are copied to `rows`.
-pub(crate) fn note_matched(
-    reference: &mut Option<Reference>,
-    rows: &mut Vec<Row>,
-    posts: &[Post],
-    matched: &Match,
-) -> Result<(), AllocError>
-    requires { IfSome reference.old (λ r. MayNote r (map (λ post. post.row) posts.now) matched.now) }
+/// Notes the next slot, where the reference is wanted.
+pub(crate) fn note_matched(reference: &mut Option<Reference>, matched: &Match)
+    requires { IfSome reference.old (λ r. (rows : List Row) × MayNote r rows matched.now) }
     ensures { (plan : SwitchPlan) (is_wanted : Bool) (matches : List Matched) → IsKept is_wanted (λ r. IsReferenceOf plan r matches) reference.old
-        → OnOk result (IsKept is_wanted (λ r. IsReferenceOf plan r (matches ++ matched.now ∷ [])) reference.new) }
+        → IsKept is_wanted (λ r. IsReferenceOf plan r (matches ++ matched.now ∷ [])) reference.new }
 {
     if let Some(reference) = reference {
-        copy_rows(posts, rows)?;
-        reference.note(rows, matched);
+        reference.note_match(matched);
     }
-    Ok(())
 }
 
 /// Notes so many slots more in which nothing comes, waits or is matched, where the reference is wanted.
@@ -66,17 +59,6 @@ pub(crate) fn skip_matched(reference: &mut Option<Reference>, slots: u32)
     if let Some(reference) = reference {
         reference.skip(slots);
     }
-}
-
-// Puts the rows of the posts into the list, and nothing else.
-fn copy_rows(posts: &[Post], rows: &mut Vec<Row>) -> Result<(), AllocError>
-    ensures { OnOk result (rows.new.items ≡ map (λ post. post.row) posts.now) }
-{
-    rows.clear();
-    for post in posts {
-        rows.push(post.row)?;
-    }
-    Ok(())
 }
 
 /// The lines of the reference, empty where they are not wanted.

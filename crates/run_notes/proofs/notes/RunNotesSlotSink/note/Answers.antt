@@ -60,7 +60,7 @@ returns-clause-noted c = λ scheduler plan noted is.
       journal = c.in_ok-put_slot_into.ensures scheduler plan wanted.journal t old.journal is.slot;
       reference = subst (λ (all : List Matched). IsKept wanted.reference (λ r. IsReferenceOf plan r all) c.note_matched.new.reference)
           (ap (λ (m : Matched). matches ++ m ∷ []) is.slot.matched_is ∙ sym (c.slots_may_be_noted.ensures.more scheduler plan t))
-          (c.in_ok-note_matched.ensures plan wanted.reference matches old.reference);
+          (c.note_matched.ensures plan wanted.reference matches old.reference);
       queues = c.note_queues.ensures scheduler plan wanted.queues old.queues is.slot;
       packets = packets;
     })
