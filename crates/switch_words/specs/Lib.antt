@@ -4,3 +4,4 @@ pub mod Parts
 pub mod Reading
 pub mod Limits
 pub mod LineSteps
+pub mod Texts
