@@ -1,4 +1,5 @@
 pub mod Numbers
+pub mod HexTexts
 pub mod Headers
 pub mod Whole
 pub mod Walk

@@ -1,5 +1,6 @@
 -- The texts of faults.
 use Rattle.std.specs.Prelude.{ℕ, List, [], ◌∷◌, codes, decimal}
+use Rattle.std.specs.List.{concat}
 use Rattle.std.specs.Int.{w32, to_be_bytes}
 use Rattle.hex.specs.Hex.{encode_lower}
 use Rattle.pcap_records.specs.declared.fault.PcapFault.{PcapFault}
@@ -18,3 +19,7 @@ parts_of (BadLink found) = codes "link type " ∷ decimal found ∷ []
 parts_of (CutRecord at) = codes "cut record at " ∷ decimal at ∷ []
 parts_of (LongRecord at len) = codes "long record at " ∷ decimal at ∷ codes ", " ∷ decimal len ∷ codes " bytes" ∷ []
 parts_of OutOfMemory = codes "out of memory" ∷ []
+
+-- the text that `Display` prints of a fault
+abbrev pub text_of : PcapFault → List ℕ
+text_of fault = concat (parts_of fault)

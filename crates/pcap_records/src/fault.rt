@@ -26,8 +26,13 @@ pub enum PcapFault {
 }
 
 impl fmt::Display for PcapFault {
+    ghost use Rattle.std.specs.Prelude.{Some};
+    ghost use Rattle.pcap_records.specs.Texts.{text_of};
+
+    ghost output = { λ fault. Some (text_of fault) };
+
     fn fmt<W: fmt::Write>(&self, f: &mut fmt::Formatter<W>) -> fmt::Result {
-        match self {
+        match *self {
             PcapFault::ShortHeader { len } => write!(f, "short header, {len} bytes"),
             PcapFault::BadMagic { found } => write!(f, "bad magic {found:08x}"),
             PcapFault::BadVersion { major, minor } => write!(f, "version {major}.{minor}"),
