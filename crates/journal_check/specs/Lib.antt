@@ -6,3 +6,4 @@ pub mod Verdicts
 pub mod Steps
 pub mod Failures
 pub mod WritingSteps
+pub mod FaultTexts

@@ -86,6 +86,11 @@ impl From<OutOfMemory> for JournalFault {
 }
 
 impl fmt::Display for JournalFault {
+    ghost use Rattle.std.specs.Prelude.{Some};
+    ghost use Rattle.journal_check.specs.FaultTexts.{text_of};
+
+    ghost output = { λ fault. Some (text_of fault) };
+
     fn fmt<W: fmt::Write>(&self, f: &mut fmt::Formatter<W>) -> fmt::Result {
         match self {
             JournalFault::Bad { at } => write!(f, "bad at {at}"),

@@ -9,3 +9,4 @@ pub mod GoodPlans
 pub mod PortSteps
 pub mod JobSteps
 pub mod CheckingSteps
+pub mod FaultTexts
