@@ -12,7 +12,7 @@ use Rattle.card_core.specs.Plans.{Plan as CardPlan, Queue, OfOutput, arriving}
 use Rattle.queue_lengths.specs.Lengths.{queues_of, greatest, length_in, peak_of, deepest_of}
 use Rattle.switch_plan.specs.GoodPlans.{SwitchPlan, IsGood, packets_in}
 use Rattle.run_laws.specs.Runs.{ports_of, card_at, no_plan, parts_under}
-use Rattle.buffer_sizing.specs.Sizing.{card_with_depth, with_depth, deepest_under}
+use Rattle.queue_measures.specs.Sizing.{card_with_depth, with_depth, deepest_under}
 use Rattle.arrival_bounds.specs.Arrivals.{AreUnicast, IsInUse, cells_of, cells_to, arriving_at, arriving_for, IsShaped, ArePairsShaped}
 use Rattle.arrival_bounds.specs.Arrivals.{HasCurves, HasWindows, arriving_in, AreQueuesShaped, cells_for}
 use Rattle.arrival_bounds.specs.Waits.{IsUnicastRun}

@@ -19,7 +19,7 @@ use Rattle.run_laws.proofs.Base.{good-card, queue_in-same}
 use Rattle.run_laws.proofs.FirstDone.{one_length}
 use Rattle.run_laws.proofs.RunEnds.{run_ends}
 use Rattle.run_laws.proofs.WaitingPackets.{waiting-admitted}
-use Rattle.buffer_sizing.specs.Sizing.{with_depth, deepest_under, DropsNothing, IsSized}
+use Rattle.queue_measures.specs.Sizing.{with_depth, deepest_under, DropsNothing, IsSized}
 use Rattle.arrival_bounds.specs.Arrivals.{IsShaped, ArePairsShaped, HasCurves, HasWindows, AreQueuesShaped, arriving_in}
 use Rattle.arrival_bounds.specs.Waits.{IsUnicastRun, waiting_under, HoldByLine}
 use Rattle.arrival_bounds.proofs.UnicastRuns.{of_level}

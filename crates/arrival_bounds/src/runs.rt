@@ -7,13 +7,13 @@ ghost use Rattle.switch_plan.specs.GoodPlans.{SwitchPlan, packets_in};
 ghost use Rattle.switch_plan.specs.Totals.{greatest_slots};
 ghost use Rattle.run_laws.specs.Runs.{ports_of};
 ghost use Rattle.run_laws.specs.Ends.{IsLengthUnder};
-ghost use Rattle.buffer_sizing.specs.Sizing.{deepest_under, DropsNothing};
+ghost use Rattle.queue_measures.specs.Sizing.{deepest_under, DropsNothing};
 ghost use Rattle.arrival_bounds.specs.Arrivals.{IsShaped, ArePairsShaped, ArePairsFew, HasCurves, AreCurvesLow, HasWindows};
 ghost use Rattle.arrival_bounds.specs.Arrivals.{AreHeldFew, arriving_in, AreQueuesShaped, IsPairFew};
 ghost use Rattle.arrival_bounds.specs.TrafficContracts.{Contracts, KeepsContracts, curve_of};
 ghost use Rattle.arrival_bounds.specs.Waits.{IsUnicastRun, WaitsAtMost, QueueWaits, HoldByLine, HoldsAtMost, waiting_under, last_slots, HoldWhatComes};
 
-use buffer_sizing::laws as sizes;
+use queue_measures::sizes;
 
 /// Traffic contracts, several for each input and each output, give it an arrival curve: in so many slots in a row no more cells arrive
 /// than are in as many windows of a contract as cover the slots, by the contract that allows least.

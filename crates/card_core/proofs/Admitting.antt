@@ -8,7 +8,7 @@ use Rattle.std_lemmas.proofs.Bools.{same_third}
 use Rattle.std_lemmas.proofs.Numbers.{lt_suc-other}
 use Rattle.slot_match.specs.declared.matching.Served.{Served}
 use Rattle.multicast_queue.specs.FanQueues.{FanCell}
-use Rattle.cell_rings.specs.CellQueues.{cells_with_fan}
+use Rattle.voq_banks.specs.CellQueues.{cells_with_fan}
 use Rattle.card_core.specs.declared.plan.Planned.{Planned}
 use Rattle.card_core.specs.Plans.{Plan, Queue, AreRising, IsGoodPlan, is_queue, queue_of, size_of, arriving, arriving_from}
 use Rattle.card_core.specs.Queues.{Passed, waiting, rest_of, with_since, head_gone, after_part_of, is_routed, fits, coming, before, queue_in}

@@ -11,7 +11,7 @@ use Rattle.rotating_pick.proofs.Bits.{Has-lt}
 use Rattle.slot_match.specs.declared.matching.Served.{Served}
 use Rattle.slot_histories.specs.Tests.{gives}
 use Rattle.multicast_queue.specs.FanQueues.{FanCell, first_fan}
-use Rattle.cell_rings.specs.CellQueues.{cells_with_fan}
+use Rattle.voq_banks.specs.CellQueues.{cells_with_fan}
 use Rattle.card_core.specs.declared.plan.Planned.{Planned}
 use Rattle.card_core.specs.Plans.{Plan, Queue, IsGoodPlan, level_of, kind_of, is_queue, queue_of, size_of, arriving}
 use Rattle.card_core.specs.Queues.{Passed, waiting, remaining, rest_of, with_since, head_gone, after_part_of, is_routed, fits, coming, before, queue_in}

@@ -16,7 +16,7 @@ use Rattle.cell_cutter.specs.Messages.{cells_in}
 use Rattle.cell_cutter.specs.Cells.{cell_of, cells_of_message}
 use Rattle.cell_cutter.proofs.Payloads.{length-message}
 use Rattle.cell_cutter.proofs.Forms.{cells_join}
-use Rattle.cell_rings.specs.CellQueues.{names_of_packet, cells_with_fan}
+use Rattle.voq_banks.specs.CellQueues.{names_of_packet, cells_with_fan}
 use Rattle.reassembly.specs.Cutting.{pieces_after, joined, messages_of}
 use Rattle.card_core.specs.declared.plan.Planned.{Planned}
 use Rattle.card_core.specs.Plans.{Plan, Queue, IsGoodPlan, queue_of, size_of, level_of, kind_of, bytes_of, message_of, cell_in, cell_named, no_packet}

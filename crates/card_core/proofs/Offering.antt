@@ -5,7 +5,7 @@ use Rattle.std.proofs.lemmas.List.{append-nil}
 use Rattle.std.proofs.lemmas.Nat.Bits.{bit_at-pow_same}
 use Rattle.rotating_pick.specs.PortSets.{Has, HasSeveral}
 use Rattle.rotating_pick.proofs.Members.{only_member, not_several}
-use Rattle.cell_rings.specs.CellQueues.{names_of_packet, cells_with_fan}
+use Rattle.voq_banks.specs.CellQueues.{names_of_packet, cells_with_fan}
 use Rattle.voq_banks.specs.Queues.{Queues as UniQueues, queue_at as uni_at, spare_at, OthersStay as UnisStay}
 use Rattle.multicast_queue.specs.FanQueues.{Queues as FanQueues, FanQueue, FanCell, queue_at as fan_at, queue_with, rest_with, OthersStay}
 use Rattle.card_core.specs.StateSteps.{rest_after, EntersUnicast, EntersMulticast, Enters}

@@ -6,7 +6,7 @@ use Rattle.std.specs.Prelude.{slice_index_or, count_by}
 use Rattle.std.specs.List.{range_with_len}
 use Rattle.slot_match.specs.declared.matching.Served.{Served}
 use Rattle.multicast_queue.specs.FanQueues.{FanCell, first_fan}
-use Rattle.cell_rings.specs.CellQueues.{cells_with_fan}
+use Rattle.voq_banks.specs.CellQueues.{cells_with_fan}
 use Rattle.card_core.specs.declared.plan.Planned.{Planned}
 use Rattle.card_core.specs.Plans.{Plan, Queue, is_queue, queue_of, size_of}
 use Rattle.card_core.specs.Queues.{Passed, remaining, is_routed, fits}

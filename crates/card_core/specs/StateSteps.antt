@@ -12,7 +12,7 @@ use Rattle.slot_match.specs.declared.rows.Row.{Row}
 use Rattle.slot_match.specs.declared.matching.Served.{Served}
 use Rattle.slot_match.specs.Parts.{set_of}
 use Rattle.voq_banks.specs.Queues.{Queues as UniQueues, queue_at as uni_at, spare_at, Waits, OthersStay as UnisStay}
-use Rattle.cell_rings.specs.CellQueues.{names_of_packet, cells_with_fan}
+use Rattle.voq_banks.specs.CellQueues.{names_of_packet, cells_with_fan}
 use Rattle.multicast_queue.specs.FanQueues.{Queues as FanQueues, FanCell, queue_at as fan_at, first_name, HeadLeaves, HeadStays, OthersStay}
 use Rattle.card_core.specs.declared.plan.Planned.{Planned}
 use Rattle.card_core.specs.declared.entering.Count.{Count}

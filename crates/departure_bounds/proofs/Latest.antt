@@ -30,7 +30,7 @@ use Rattle.run_laws.specs.Crossings.{cells_under, queue_to}
 use Rattle.run_laws.proofs.Base.{good-card, before-same, granted_to-same}
 use Rattle.run_laws.proofs.FlowCells.{level_to, kind_to, granted_cells, flow_first}
 use Rattle.run_laws.proofs.PacketCells.{IsMessageTo, named, packets_cells, packets_hold}
-use Rattle.packet_departures.specs.Departures.{Flow, is_end_of, ends_of, goes_by}
+use Rattle.run_laws.specs.Departures.{Flow, is_end_of, ends_of, goes_by}
 use Rattle.departure_bounds.proofs.FirstCells.{lasts, lasts-cons, lasts-append, first_fewer, all_end, early, early_enough}
 
 -- the slot d slots after slot t

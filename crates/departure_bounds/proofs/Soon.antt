@@ -14,8 +14,8 @@ use Rattle.switch_plan.specs.GoodPlans.{SwitchPlan}
 use Rattle.run_laws.specs.Runs.{card_at, parts_under}
 use Rattle.run_laws.specs.Crossings.{queue_to}
 use Rattle.run_laws.proofs.Base.{good-card}
-use Rattle.packet_departures.specs.Departures.{flow_of, goes_by}
-use Rattle.packet_departures.specs.Promises.{Leaves, EachDeparts}
+use Rattle.run_laws.specs.Departures.{flow_of, goes_by}
+use Rattle.run_laws.specs.DeparturePromises.{Leaves, EachDeparts}
 use Rattle.arrival_bounds.specs.Waits.{IsUnicastRun, WaitsAtMost, QueueWaits}
 use Rattle.departure_bounds.specs.Delays.{DepartWithin, QueueDepartsWithin}
 use Rattle.departure_bounds.proofs.Unicast.{unicast_queue}

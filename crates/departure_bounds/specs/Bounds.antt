@@ -5,7 +5,7 @@ use Rattle.eslip_rounds.specs.Schedulers.{Scheduler}
 use Rattle.switch_plan.specs.GoodPlans.{SwitchPlan, packets_in}
 use Rattle.switch_plan.specs.Totals.{greatest_slots}
 use Rattle.run_laws.specs.Runs.{ports_of}
-use Rattle.buffer_sizing.specs.Sizing.{DropsNothing}
+use Rattle.queue_measures.specs.Sizing.{DropsNothing}
 use Rattle.arrival_bounds.specs.Arrivals.{AreUnicast, ArePairsShaped, AreHeldFew, IsPairFew, IsShaped, HasCurves, HasWindows, AreQueuesShaped}
 use Rattle.arrival_bounds.specs.Waits.{WaitsAtMost, QueueWaits, HoldByLine, HoldsAtMost, HoldWhatComes}
 use Rattle.departure_bounds.specs.Delays.{DepartWithin, QueueDepartsWithin}

@@ -4,8 +4,8 @@ use Rattle.eslip_rounds.specs.Schedulers.{Scheduler}
 use Rattle.card_core.specs.declared.plan.Planned.{Planned}
 use Rattle.card_core.specs.Plans.{OfOutput, queue_of}
 use Rattle.switch_plan.specs.GoodPlans.{SwitchPlan}
-use Rattle.packet_departures.specs.Departures.{departure_under}
-use Rattle.packet_departures.specs.Promises.{Leaves}
+use Rattle.run_laws.specs.Departures.{departure_under}
+use Rattle.run_laws.specs.DeparturePromises.{Leaves}
 
 -- Each packet that leaves by an output has a departure there, the slot in which its last cell crosses, at most so many slots
 -- after its arrival slot, in which all its cells come.

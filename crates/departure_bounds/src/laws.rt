@@ -12,7 +12,7 @@ ghost use Rattle.departure_bounds.specs.Delays.{DepartWithin, QueueDepartsWithin
 ghost use Rattle.departure_bounds.specs.Bounds.{ArrivalBounds};
 
 use arrival_bounds::runs as bounds;
-use packet_departures::laws as departures;
+use run_laws::departures;
 
 /// Where no cell waits more than `most` slots, each packet departs at most `most + 1` slots after its arrival: all its cells enter a
 /// queue in its arrival slot, and a cell crosses in the slot after that in which it is granted. So it is of the packets of one

@@ -26,7 +26,7 @@ use Rattle.run_laws.proofs.FlowSums.{level_sum, flow_sum}
 use Rattle.run_laws.proofs.FlowCells.{granted_cells}
 use Rattle.run_laws.proofs.OfFlows.{all_of_flows}
 use Rattle.run_laws.proofs.RunWork.{all_grants, all_grants-few, total_admitted-le}
-use Rattle.run_outcomes.specs.Outcomes.{over_ports}
+use Rattle.run_laws.specs.Outcomes.{over_ports}
 
 -- ---- each cell is of a flow
 -- the cells of a flow, and one more

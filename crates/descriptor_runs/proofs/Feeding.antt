@@ -16,7 +16,7 @@ use Rattle.switch_plan.specs.GoodPlans.{SwitchPlan, IsGood, IsCountable}
 use Rattle.run_laws.specs.Runs.{ports_of, card_at, no_plan}
 use Rattle.run_laws.specs.Crossings.{cells_under}
 use Rattle.run_laws.proofs.Base.{good-card, sound}
-use Rattle.run_outcomes.specs.Outcomes.{messages_under}
+use Rattle.run_laws.specs.Outcomes.{messages_under}
 use Rattle.slot_records.specs.Slots.{match_under, packet_named, AddsNothing, AddsCell, AddsBy, AddsInSlot}
 use Rattle.descriptor_runs.specs.InputSteps.{InputValue}
 use Rattle.descriptor_runs.specs.OutputSteps.{OutputValue, HasCome, HasTaken, messages_with}

@@ -20,8 +20,8 @@ use Rattle.run_laws.specs.Ends.{IsLengthUnder}
 use Rattle.run_laws.specs.Crossings.{cells_under}
 use Rattle.run_laws.specs.Sums.{schedule_under}
 use Rattle.run_laws.proofs.Base.{served-length}
-use Rattle.run_outcomes.specs.Outcomes.{messages_under, admitted_count, dropped_count, over_ports, longest_under, summary_under}
-use Rattle.run_outcomes.proofs.Counted.{counted-once}
+use Rattle.run_laws.specs.Outcomes.{messages_under, admitted_count, dropped_count, over_ports, longest_under, summary_under}
+use Rattle.run_laws.proofs.Counted.{counted-once}
 use Rattle.slot_records.specs.Slots.{AddsNothing}
 use Rattle.descriptor_runs.specs.InputSteps.{InputValue}
 use Rattle.descriptor_runs.specs.OutputSteps.{OutputValue, HasCome, AreKeeping}

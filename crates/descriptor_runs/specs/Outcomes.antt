@@ -8,7 +8,7 @@ use Rattle.switch_plan.specs.GoodPlans.{SwitchPlan}
 use Rattle.run_laws.specs.Runs.{ports_of}
 use Rattle.run_laws.specs.Ends.{IsLengthUnder}
 use Rattle.run_laws.specs.Crossings.{cells_under}
-use Rattle.run_outcomes.specs.Outcomes.{messages_under, summary_under}
+use Rattle.run_laws.specs.Outcomes.{messages_under, summary_under}
 use Rattle.descriptor_runs.specs.declared.outputs.Captures.{Captures}
 use Rattle.descriptor_runs.specs.declared.outputs.Captures.TheVariants.{Kept, Dropped}
 use Rattle.descriptor_runs.specs.declared.running.RunOutcome.{RunOutcome}

@@ -10,7 +10,7 @@ use Rattle.pcap_records.specs.Output.{capture_text}
 use Rattle.eslip_rounds.specs.Schedulers.{Scheduler}
 use Rattle.switch_plan.specs.GoodPlans.{SwitchPlan}
 use Rattle.run_laws.specs.Crossings.{cells_under}
-use Rattle.run_outcomes.specs.Outcomes.{messages_under}
+use Rattle.run_laws.specs.Outcomes.{messages_under}
 use Rattle.descriptor_runs.specs.declared.outputs.Captures.{Captures}
 use Rattle.descriptor_runs.specs.declared.outputs.Captures.TheVariants.{Kept, Dropped}
 

@@ -1,3 +1,6 @@
+pub mod Turning
+pub mod Words
+pub mod Exchanging
 pub mod Squares
 pub mod Collecting
 pub mod Counting

@@ -1,3 +1,4 @@
+pub mod ExchangeSteps
 pub mod Numbers
 pub mod Choices
 pub mod Columns

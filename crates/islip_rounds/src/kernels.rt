@@ -4,7 +4,7 @@ ghost use Rattle.rotating_pick.specs.Rotation.{IsFirstFrom};
 ghost use Rattle.islip_rounds.specs.Choices.{AreChoices};
 ghost use Rattle.islip_rounds.specs.Columns.{AreColumns};
 
-use port_square::turn_square;
+use crate::square::turn_square;
 use rotating_pick::{MAX_PORTS, PORT_COUNT, Ports, contains, lowest, pick, with, without};
 
 // Rows of no more members than this are put into columns member by member, since a whole square costs as

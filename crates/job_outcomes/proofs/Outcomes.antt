@@ -12,7 +12,7 @@ use Rattle.switch_words.specs.Reading.{JobWords, run, gen, check, firm, RunWords
 use Rattle.switch_plan.specs.GoodPlans.{SwitchPlan}
 use Rattle.switch_plan.proofs.Refused.{refusal_once}
 use Rattle.run_laws.proofs.RunEnds.{run_ends}
-use Rattle.run_outcomes.specs.Outcomes.{summary_under}
+use Rattle.run_laws.specs.Outcomes.{summary_under}
 use Rattle.scheduler_runs.proofs.Promised.{firm-run, short-waits}
 use Rattle.packet_times.specs.declared.limits.TheConstants.{MAX_PACKETS_BYTES}
 use Rattle.packet_times.specs.Rows.{packets_text_under}

@@ -8,7 +8,7 @@ use Rattle.std.proofs.lemmas.List.FromFn.{length-map-range_with_len}
 use Rattle.std.proofs.lemmas.Simd.{map-map}
 use Rattle.cell_cutter.specs.declared.cell.CellName.{CellName}
 use Rattle.rotating_pick.specs.PortSets.{IsAmong}
-use Rattle.cell_rings.specs.CellQueues.{names_of_packet, cells_with_fan}
+use Rattle.voq_banks.specs.CellQueues.{names_of_packet, cells_with_fan}
 use Rattle.multicast_queue.specs.FanQueues.{FanCell, FanQueue, empty_queue, empty_queues, queue_at, HeadLeaves, HeadStays, OthersStay}
 use Rattle.multicast_queue.specs.FieldSteps.{Kept, empty_kept, kept_with, queues_in, kept_at, HaveFans, IsRest, IsKept, AreKept}
 use Rattle.multicast_queue.proofs.Rests.{HaveFans-append, HaveFans-packet, IsRest-more, IsRest-on, HaveFans-next, IsRest-next}

@@ -2,8 +2,8 @@
 use Rattle.std.specs.Prelude.{◌≡◌, ◌≢◌, ◌↔◌, ℕ, ◌-◌, List, [], ◌∷◌, ◌++◌, Option, Some, None, map, drop, slice_index_or}
 use Rattle.cell_cutter.specs.declared.cell.CellName.{CellName}
 use Rattle.rotating_pick.specs.PortSets.{Has}
-use Rattle.cell_rings.specs.declared.ring.QueuedCell.{QueuedCell}
-use Rattle.cell_rings.specs.CellQueues.{cells_with_fan}
+use Rattle.voq_banks.specs.declared.ring.QueuedCell.{QueuedCell}
+use Rattle.voq_banks.specs.CellQueues.{cells_with_fan}
 
 -- a cell, and all outputs that it goes to
 abbrev pub FanCell : Type 0

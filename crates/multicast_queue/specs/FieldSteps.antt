@@ -2,7 +2,7 @@
 use Rattle.std.specs.Prelude.{◌≡◌, ◌≢◌, ℕ, ◌<◌, ◌≤◌, List, [], ◌∷◌, length, map, slice_index_or}
 use Rattle.rotating_pick.specs.PortSets.{Has, IsAmong}
 use Rattle.rotating_pick.specs.declared.limits.TheConstants.{LEVELS}
-use Rattle.cell_rings.specs.CellQueues.{CellQueue}
+use Rattle.voq_banks.specs.CellQueues.{CellQueue}
 use Rattle.multicast_queue.specs.FanQueues.{FanCell, FanQueue, Queues, empty_queue, queue_with}
 
 -- a queue, and the most cells that it may have

@@ -4,10 +4,10 @@ ghost use Rattle.multicast_queue.specs.FanQueues.{first_fan, first_name, rest_wi
 ghost use Rattle.multicast_queue.specs.FieldSteps.{empty_kept, kept_with};
 
 use cell_cutter::{CellName, MAX_FORWARDED_CELLS};
-use cell_rings::CellRing;
 use rotating_pick::{Ports, difference, is_empty};
 use std::alloc::{AllocError, Global};
 use std::marker::Model;
+use voq_banks::CellRing;
 
 /// A queue of cells with fan-outs, and those outputs of the head's fan-out that were not served yet.
 #[derive(Drop)]

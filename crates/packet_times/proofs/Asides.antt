@@ -24,7 +24,7 @@ use Rattle.run_laws.proofs.Base.{good-card}
 use Rattle.std_lemmas.proofs.Sums.{sum_by-same, sum_by-plus}
 use Rattle.std_lemmas.proofs.RangeSums.{sum_by-range_same}
 use Rattle.std_lemmas.proofs.MappedSums.{sum_by-map, sum_of, count_map, count_left}
-use Rattle.run_outcomes.specs.Outcomes.{over_ports, summary_under}
+use Rattle.run_laws.specs.Outcomes.{over_ports, summary_under}
 use Rattle.packet_times.specs.declared.state.PacketState.TheVariants.{Unrouted, Oversize}
 use Rattle.packet_times.specs.Sums.{input_told, packets_told, RowsAddUp}
 use Rattle.packet_times.proofs.Telling.{unrouted-if, oversize-if}

@@ -20,7 +20,7 @@ use Rattle.run_laws.proofs.Base.{decision-same, served-length}
 use Rattle.run_laws.proofs.Crossed.{crossed-free}
 use Rattle.idle_slots.specs.Skipped.{IsGap}
 use Rattle.idle_slots.proofs.Gaps.{gap-ahead, gap-parts, gap-queues}
-use Rattle.packet_departures.specs.Departures.{Flow, is_end_of, ends_of}
+use Rattle.run_laws.specs.Departures.{Flow, is_end_of, ends_of}
 use Rattle.packet_times.specs.NotingSteps.{Input, Times, no_input, was_admitted, IsNoted, IsLastMatch, HasNoted}
 use Rattle.packet_times.proofs.Arriving.{all-later}
 

@@ -13,7 +13,7 @@ use Rattle.cell_cutter.specs.declared.sizes.TheConstants.{MAX_FORWARDED_BYTES}
 use Rattle.switch_plan.specs.GoodPlans.{SwitchPlan}
 use Rattle.run_laws.specs.Runs.{ports_of, card_at, parts_under}
 use Rattle.run_laws.specs.Promises.{ArrivalsComeFirst}
-use Rattle.packet_departures.specs.Departures.{departure_under}
+use Rattle.run_laws.specs.Departures.{departure_under}
 use Rattle.packet_times.specs.declared.state.PacketState.{PacketState}
 use Rattle.packet_times.specs.declared.state.PacketState.TheVariants.{Forwarded, Dropped, Unrouted, Oversize}
 use Rattle.packet_times.specs.NotingSteps.{Input, Times, no_input, flow_place, was_admitted, HasNoted}

@@ -23,7 +23,7 @@ use Rattle.card_core.specs.Queues.{is_routed}
 use Rattle.slot_report.specs.Texts.{letter_of}
 use Rattle.switch_plan.specs.GoodPlans.{SwitchPlan}
 use Rattle.run_laws.specs.Runs.{ports_of, card_at, parts_under}
-use Rattle.packet_departures.specs.Departures.{flow_of, ends_of, earlier_by, departure_under}
+use Rattle.run_laws.specs.Departures.{flow_of, ends_of, earlier_by, departure_under}
 use Rattle.packet_times.specs.declared.state.PacketState.{PacketState}
 use Rattle.packet_times.specs.declared.state.PacketState.TheVariants.{Forwarded, Dropped, Unrouted, Oversize}
 use Rattle.packet_times.specs.NotingSteps.{Input, Times, no_input, HasNoted}

@@ -26,7 +26,7 @@ use Rattle.card_core.specs.Posts.{row_at, IsServable}
 use Rattle.switch_plan.specs.GoodPlans.{SwitchPlan, IsGood, IsCountable}
 use Rattle.run_laws.specs.Runs.{ports_of, setup_for, no_plan, card_at, before_under, parts_under, posts_under, IsSlotUnder}
 use Rattle.run_laws.proofs.Base.{decision-same, good-card}
-use Rattle.packet_departures.specs.Departures.{Flow, is_end_of, ends_of}
+use Rattle.run_laws.specs.Departures.{Flow, is_end_of, ends_of}
 use Rattle.packet_times.specs.NotingSteps.{Input, Times, no_input, flow_place, IsNoted, IsLastMatch, HasNoted}
 use Rattle.packet_times.specs.Steps.{end_in, HasEnds, AreNoted}
 

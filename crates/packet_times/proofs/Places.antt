@@ -11,7 +11,7 @@ use Rattle.rotating_pick.specs.declared.kinds.Kind.TheVariants.{Uni, Multi}
 use Rattle.reassembly.specs.declared.limits.TheConstants.{FLOWS_PER_INPUT}
 use Rattle.cell_cutter.specs.declared.cell.Cell.{Cell}
 use Rattle.eslip_rounds.specs.Decisions.{is_kind}
-use Rattle.packet_departures.specs.Departures.{Flow, is_end_of}
+use Rattle.run_laws.specs.Departures.{Flow, is_end_of}
 use Rattle.packet_times.specs.NotingSteps.{IsFlow, kind_place, flow_place}
 use Rattle.packet_times.specs.Steps.{ends_at, EndsAt, AddsEnd}
 

@@ -15,7 +15,7 @@ use Rattle.card_core.specs.declared.plan.Planned.{Planned}
 use Rattle.card_core.specs.Queues.{is_routed}
 use Rattle.switch_plan.specs.GoodPlans.{SwitchPlan}
 use Rattle.run_laws.specs.Runs.{card_at, parts_under}
-use Rattle.packet_departures.specs.Departures.{departure_under}
+use Rattle.run_laws.specs.Departures.{departure_under}
 use Rattle.packet_times.specs.declared.state.PacketState.{PacketState}
 use Rattle.packet_times.specs.declared.state.PacketState.TheVariants.{Forwarded, Dropped, Unrouted, Oversize}
 use Rattle.packet_times.specs.NotingSteps.{was_admitted}

@@ -22,9 +22,9 @@ use Rattle.std_lemmas.proofs.Sums.{sum_by-turn}
 use Rattle.std_lemmas.proofs.Numbers.{below_power}
 use Rattle.std_lemmas.proofs.RangeSums.{sum_by-range_same}
 use Rattle.run_laws.proofs.PacketCells.{some_fan}
-use Rattle.run_outcomes.specs.Outcomes.{admitted_count, dropped_count, summary_under}
-use Rattle.packet_departures.specs.Promises.{leaves_by}
-use Rattle.packet_departures.proofs.Copies.{counted}
+use Rattle.run_laws.specs.Outcomes.{admitted_count, dropped_count, summary_under}
+use Rattle.run_laws.specs.DeparturePromises.{leaves_by}
+use Rattle.run_laws.proofs.Copies.{counted}
 use Rattle.packet_times.specs.declared.state.PacketState.{PacketState}
 use Rattle.packet_times.specs.declared.state.PacketState.TheVariants.{Forwarded, Dropped}
 use Rattle.packet_times.specs.Rows.{state_of, outputs_in, packet_rows}

@@ -12,7 +12,7 @@ use Rattle.card_core.specs.Queues.{is_routed, is_admitted}
 use Rattle.run_laws.specs.Runs.{ports_of, card_at, parts_under}
 use Rattle.std_lemmas.proofs.Sums.{sum_by-zero}
 use Rattle.switch_plan.specs.GoodPlans.{SwitchPlan}
-use Rattle.packet_departures.specs.Promises.{leaves_by}
+use Rattle.run_laws.specs.DeparturePromises.{leaves_by}
 use Rattle.packet_times.specs.declared.state.PacketState.{PacketState}
 use Rattle.packet_times.specs.declared.state.PacketState.TheVariants.{Forwarded, Dropped, Unrouted, Oversize}
 use Rattle.packet_times.specs.Rows.{state_of, state_name, routed_row, aside_row, outputs_in, packet_rows}

@@ -14,7 +14,7 @@ use Rattle.card_core.specs.Queues.{is_routed, is_admitted}
 use Rattle.queue_lengths.specs.Counters.{Counters, CountBefore}
 use Rattle.switch_plan.specs.GoodPlans.{SwitchPlan, IsGood}
 use Rattle.run_laws.specs.Runs.{ports_of, setup_for, card_at, parts_under, posts_under}
-use Rattle.packet_departures.specs.Departures.{Flow, ends_of}
+use Rattle.run_laws.specs.Departures.{Flow, ends_of}
 
 -- an input: the counters of its queues, and of each packet that has come whether it was admitted
 pub record Input : Type 0 where

@@ -7,7 +7,7 @@ use Rattle.card_core.specs.Plans.{Plan}
 use Rattle.queue_lengths.specs.Counters.{CountIn}
 use Rattle.switch_plan.specs.GoodPlans.{SwitchPlan}
 use Rattle.run_laws.specs.Runs.{ports_of, card_at, parts_under}
-use Rattle.packet_departures.specs.Departures.{Flow, is_end_of}
+use Rattle.run_laws.specs.Departures.{Flow, is_end_of}
 use Rattle.packet_times.specs.NotingSteps.{Input, no_input, IsFlow, flow_place, was_admitted, IsNoted}
 
 -- what a slot adds to the ends of a flow, of the cell that crosses to its output

@@ -4,7 +4,7 @@ use Rattle.std.specs.List.{list_any, enumerate_from}
 use Rattle.eslip_rounds.specs.Schedulers.{Scheduler}
 use Rattle.switch_plan.specs.GoodPlans.{SwitchPlan}
 use Rattle.run_laws.specs.Runs.{card_at}
-use Rattle.run_outcomes.specs.Outcomes.{over_ports, summary_under}
+use Rattle.run_laws.specs.Outcomes.{over_ports, summary_under}
 use Rattle.packet_times.specs.declared.state.PacketState.{PacketState}
 use Rattle.packet_times.specs.declared.state.PacketState.TheVariants.{Forwarded, Dropped, Unrouted, Oversize}
 use Rattle.packet_times.specs.Rows.{state_name, packet_rows, all_rows}

@@ -22,7 +22,7 @@ use Rattle.switch_plan.specs.GoodPlans.{SwitchPlan}
 use Rattle.run_laws.specs.Runs.{ports_of, card_at, parts_under}
 use Rattle.run_laws.specs.Promises.{ArrivalsComeFirst}
 use Rattle.run_laws.proofs.Base.{good-card, served-length}
-use Rattle.buffer_sizing.specs.Sizing.{deepest_under}
+use Rattle.queue_measures.specs.Sizing.{deepest_under}
 use Rattle.queue_lengths.specs.Lengths.{count_of, queues_of, greatest, deepest_of, is_for, packets_of}
 use Rattle.queue_measures.specs.declared.numbers.QueueNumbers.{QueueNumbers}
 use Rattle.queue_measures.specs.Lines.{numbers_of, queue_line, queue_lines_under, deepest_line, input_lines}

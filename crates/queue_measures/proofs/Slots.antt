@@ -22,7 +22,7 @@ use Rattle.switch_plan.specs.GoodPlans.{SwitchPlan, IsCountable}
 use Rattle.switch_plan.specs.Totals.{work_of}
 use Rattle.run_laws.specs.Runs.{ports_of, setup_for, card_at, no_plan, parts_under, posts_under, IsSlotUnder}
 use Rattle.run_laws.proofs.Base.{served-is, served-length, good-card}
-use Rattle.buffer_sizing.proofs.GreatestDepth.{card_work, routed_work}
+use Rattle.queue_measures.proofs.GreatestDepth.{card_work, routed_work}
 use Rattle.queue_measures.specs.NotingSteps.{Input, HasNoted, IsCounted, IsNoted, no_input}
 
 -- a card of a countable plan is counted

@@ -1,3 +1,4 @@
+pub mod Sizing
 pub mod Lines
 pub mod NotingSteps
 pub mod Steps

@@ -10,7 +10,7 @@ use Rattle.queue_lengths.specs.Lengths.{queues_of, packets_of, dropped_of, cells
 use Rattle.queue_measures.specs.declared.numbers.QueueNumbers.{QueueNumbers}
 use Rattle.switch_plan.specs.GoodPlans.{SwitchPlan}
 use Rattle.run_laws.specs.Runs.{ports_of, card_at, parts_under}
-use Rattle.buffer_sizing.specs.Sizing.{deepest_under}
+use Rattle.queue_measures.specs.Sizing.{deepest_under}
 
 -- the numbers of a queue of an input that was served these parts, over the first slots
 abbrev pub numbers_of : Plan → List (Option Served) → ℕ → Queue → QueueNumbers

@@ -1,6 +1,6 @@
 use cell_cutter::CellName;
-use cell_rings::CellRing;
 use std::test::Fail;
+use voq_banks::CellRing;
 
 // A packet's second and last cell.
 const SECOND: CellName = CellName {

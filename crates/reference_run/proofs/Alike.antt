@@ -13,7 +13,7 @@ use Rattle.slot_match.specs.declared.matching.Served.{Served}
 use Rattle.slot_match.specs.declared.rows.Row.{Row}
 use Rattle.slot_match.specs.Parts.{set_of}
 use Rattle.multicast_queue.specs.FanQueues.{FanCell, first_fan}
-use Rattle.cell_rings.specs.CellQueues.{names_of_packet, cells_with_fan}
+use Rattle.voq_banks.specs.CellQueues.{names_of_packet, cells_with_fan}
 use Rattle.slot_histories.specs.Tests.{has}
 use Rattle.card_core.specs.declared.plan.Planned.{Planned}
 use Rattle.card_core.specs.Plans.{Plan, Queue, OfOutput, OfLevel, IsGoodPlan, AreRising, is_queue, queue_of, size_of, arriving, arriving_from}

@@ -18,7 +18,7 @@ use Rattle.run_laws.specs.Sums.{schedule_under}
 use Rattle.run_laws.proofs.Base.{accepted, sound}
 use Rattle.run_laws.proofs.FirstDone.{not_done, one_length}
 use Rattle.run_laws.proofs.RunEnds.{run_ends}
-use Rattle.run_outcomes.specs.Outcomes.{summary_under}
+use Rattle.run_laws.specs.Outcomes.{summary_under}
 use Rattle.run_laws.proofs.Limits.{slots_some, slots_few, slots_halved}
 use Rattle.journal_check.specs.declared.verdict.Verdict.TheVariants.{Yes}
 use Rattle.journal_check.specs.Texts.{file_slot, HasLevels, IsFile}

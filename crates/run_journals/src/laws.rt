@@ -4,7 +4,7 @@ ghost use Rattle.std.specs.Prelude.{◌≡◌, ℕ, Ok};
 ghost use Rattle.eslip_rounds.specs.Schedulers.{Scheduler, IsScheduler};
 ghost use Rattle.switch_plan.specs.GoodPlans.{SwitchPlan, IsGood, IsBurst};
 ghost use Rattle.run_laws.specs.Ends.{IsLengthUnder};
-ghost use Rattle.run_outcomes.specs.Outcomes.{summary_under};
+ghost use Rattle.run_laws.specs.Outcomes.{summary_under};
 ghost use Rattle.journal_check.specs.declared.verdict.Verdict.TheVariants.{Yes};
 ghost use Rattle.journal_check.specs.Texts.{IsFile};
 ghost use Rattle.journal_check.specs.Lawful.{IsLawfulUnder};

@@ -26,3 +26,12 @@ pub mod InTime
 pub mod Driven
 pub mod Finished
 pub mod Given
+pub mod Counted
+pub mod Departing
+mod FlowEnds
+mod Leaving
+mod InOrder
+mod LastCells
+mod Earlier
+mod Earliest
+pub mod Copies

@@ -10,7 +10,7 @@ use Rattle.rotating_pick.specs.declared.kinds.Kind.TheVariants.{Uni}
 use Rattle.slot_match.specs.declared.matching.Served.{Served}
 use Rattle.slot_match.specs.Rows.{Names, row_of}
 use Rattle.multicast_queue.specs.FanQueues.{FanCell}
-use Rattle.cell_rings.specs.CellQueues.{cells_with_fan}
+use Rattle.voq_banks.specs.CellQueues.{cells_with_fan}
 use Rattle.eslip_rounds.specs.Schedulers.{Scheduler}
 use Rattle.service_bound.specs.Windows.{GainsAtMostOne, AreAtLineRate}
 use Rattle.slot_histories.specs.Slots.{slot_rows}

@@ -10,7 +10,7 @@ use Rattle.slot_histories.specs.Tests.{has}
 use Rattle.multicast_queue.specs.FanQueues.{FanCell}
 use Rattle.cell_cutter.specs.declared.cell.Cell.{Cell}
 use Rattle.cell_cutter.specs.Cells.{cells_of_message}
-use Rattle.cell_rings.specs.CellQueues.{names_of_packet, cells_with_fan}
+use Rattle.voq_banks.specs.CellQueues.{names_of_packet, cells_with_fan}
 use Rattle.card_core.specs.declared.plan.Planned.{Planned}
 use Rattle.card_core.specs.Plans.{Plan, Queue, IsGoodPlan, is_queue, queue_of, size_of, level_of, kind_of, message_of, cell_named}
 use Rattle.card_core.specs.Queues.{before, is_routed, is_admitted, enters, cells_admitted}

@@ -7,7 +7,7 @@ use Rattle.rotating_pick.specs.declared.kinds.Kind.TheVariants.{Uni, Multi}
 use Rattle.slot_match.specs.declared.matching.Served.{Served}
 use Rattle.slot_match.specs.Rows.{Names}
 use Rattle.multicast_queue.specs.FanQueues.{FanCell}
-use Rattle.cell_rings.specs.CellQueues.{cells_with_fan}
+use Rattle.voq_banks.specs.CellQueues.{cells_with_fan}
 use Rattle.eslip_rounds.specs.Schedulers.{Scheduler, IsScheduler}
 use Rattle.card_core.specs.declared.plan.Planned.{Planned}
 use Rattle.card_core.specs.Plans.{Plan, Queue, OfLevel, IsGoodPlan, is_queue, queue_of, size_of}

@@ -5,3 +5,7 @@ pub mod Sums
 pub mod Promises
 pub mod InTime
 pub mod RunSteps
+pub mod Outcomes
+pub mod Interleaving
+pub mod Departures
+pub mod DeparturePromises

@@ -32,8 +32,8 @@ use Rattle.run_laws.proofs.OfFlows.{all_of_flows}
 use Rattle.run_laws.proofs.RunEnds.{run_bound}
 use Rattle.run_laws.proofs.RunSchedule.{run-schedule, run-within, run-kept}
 use Rattle.run_laws.proofs.RunWindows.{begins, in_first, best-window, best-alone}
-use Rattle.run_outcomes.proofs.Counted.{counted-once}
-use Rattle.run_outcomes.specs.Outcomes.{longest_under, summary_under}
+use Rattle.run_laws.proofs.Counted.{counted-once}
+use Rattle.run_laws.specs.Outcomes.{longest_under, summary_under}
 use Rattle.scheduler_runs.specs.FirmRuns.{IsFirmRun, HasShortWaits, FirmPromises}
 use Rattle.scheduler_runs.proofs.Completing.{completes-firm, completes-in_time_under_each}
 use Rattle.named_schedulers.proofs.SecondScheduler.{IsSchedulerBy-firm_decision, IsScheduler-firm_decision}

@@ -9,7 +9,7 @@ use Rattle.run_laws.specs.Sums.{IsBestUnder}
 use Rattle.run_laws.specs.Promises.{ArrivalsComeFirst, BusySlotsMatchUnder, CompletesUnder, DeliversUnder, DeliversNoOthersUnder, HasFewSlotsUnder}
 use Rattle.run_laws.specs.Promises.{ServesUnder, WaitsUnder}
 use Rattle.run_laws.specs.InTime.{CompletesInTimeUnder, ServesInTimeUnder}
-use Rattle.run_outcomes.specs.Outcomes.{summary_under, CountsPacketsOnce}
+use Rattle.run_laws.specs.Outcomes.{summary_under, CountsPacketsOnce}
 
 -- these are the numbers of the plan's run, to its end
 pub record IsFirmRun (plan : SwitchPlan) (summary : Summary) : Type 0 where

@@ -1,4 +1,4 @@
-use port_square::turn_square;
+use islip_rounds::turn_square;
 use rotating_pick::{PORT_COUNT, Ports};
 
 // The rows of a square that are set, and the columns that are set then.

@@ -12,7 +12,7 @@ use Rattle.slot_histories.specs.Tests.{has}
 use Rattle.multicast_queue.specs.FanQueues.{FanCell}
 use Rattle.cell_cutter.specs.declared.cell.Cell.{Cell}
 use Rattle.cell_cutter.specs.declared.cell.CellName.{CellName}
-use Rattle.cell_rings.specs.CellQueues.{names_of_packet, cells_with_fan}
+use Rattle.voq_banks.specs.CellQueues.{names_of_packet, cells_with_fan}
 use Rattle.reassembly.specs.Cutting.{rest_after}
 use Rattle.card_core.specs.declared.plan.Planned.{Planned}
 use Rattle.card_core.specs.Plans.{Plan, Queue, IsGoodPlan, size_of, cell_in, cell_named, no_packet}

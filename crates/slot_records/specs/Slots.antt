@@ -16,7 +16,7 @@ use Rattle.card_core.specs.Posts.{queue_served}
 use Rattle.switch_plan.specs.GoodPlans.{SwitchPlan}
 use Rattle.run_laws.specs.Runs.{ports_of, setup_for, card_at, parts_under, posts_under}
 use Rattle.run_laws.specs.Crossings.{cells_under}
-use Rattle.run_outcomes.specs.Outcomes.{messages_under}
+use Rattle.run_laws.specs.Outcomes.{messages_under}
 
 -- the match of slot t of the run
 abbrev pub match_under : Scheduler → SwitchPlan → ℕ → List (Option Fed)

@@ -6,7 +6,7 @@ ghost use Rattle.switch_plan.specs.GoodPlans.{SwitchPlan, IsGood};
 ghost use Rattle.run_laws.specs.Runs.{ports_of};
 ghost use Rattle.run_laws.specs.Ends.{IsLengthUnder};
 ghost use Rattle.run_laws.specs.Crossings.{cells_under};
-ghost use Rattle.run_outcomes.specs.Outcomes.{messages_under};
+ghost use Rattle.run_laws.specs.Outcomes.{messages_under};
 ghost use Rattle.slot_records.specs.Slots.{AddsInSlot, AddsNothing};
 
 /// What slot t grants crosses in the slot after it: to each output that it feeds one cell, the first of the queue that it

@@ -25,8 +25,8 @@ use Rattle.run_laws.specs.RunSteps.{posts_in, run_slot}
 use Rattle.run_laws.specs.Sums.{run_schedule}
 use Rattle.run_laws.specs.Crossings.{cells_under}
 use Rattle.switch_jobs.specs.declared.ready.Terms.{Terms}
-use Rattle.run_outcomes.specs.Outcomes.{messages_under, admitted_count, dropped_count, longest_under, summary_under, summary_of}
-use Rattle.run_outcomes.specs.Outcomes.{IsOutputUnder, IsOutput}
+use Rattle.run_laws.specs.Outcomes.{messages_under, admitted_count, dropped_count, longest_under, summary_under, summary_of}
+use Rattle.run_laws.specs.Outcomes.{IsOutputUnder, IsOutput}
 use Rattle.switch_jobs.specs.ReadinessSteps.{plan_with}
 use Rattle.switch_jobs.specs.JournalSteps.{noted_in, longest_in, HaveSums, summary_with, summary_in}
 use Rattle.switch_jobs.specs.EndingSteps.{AreLeft, IsRunOf}

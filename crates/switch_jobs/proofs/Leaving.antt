@@ -24,7 +24,7 @@ use Rattle.switch_plan.specs.GoodPlans.{SwitchPlan}
 use Rattle.run_laws.specs.Runs.{card_at, setup_for, parts_under, posts_under, takings_under, run_takings}
 use Rattle.run_laws.specs.Crossings.{cells_under}
 use Rattle.run_laws.specs.Ends.{IsLength}
-use Rattle.run_outcomes.specs.Outcomes.{IsOutputUnder, IsOutput}
+use Rattle.run_laws.specs.Outcomes.{IsOutputUnder, IsOutput}
 use Rattle.switch_jobs.specs.EndingSteps.{Leaves}
 use Rattle.switch_jobs.proofs.Adding.{messages-le, cells-le}
 use Rattle.switch_jobs.proofs.Serving.{served_taken, cells_crossed, takings_end}

@@ -17,7 +17,7 @@ use Rattle.card_worker.specs.Alone.{AreHandsOf, IsOver}
 use Rattle.switch_plan.specs.GoodPlans.{SwitchPlan}
 use Rattle.run_laws.specs.Runs.{ports_of, setup_for, card_at, no_plan, run_journal, run_takings}
 use Rattle.run_laws.specs.Ends.{IsLength}
-use Rattle.run_outcomes.specs.Outcomes.{IsOutput}
+use Rattle.run_laws.specs.Outcomes.{IsOutput}
 use Rattle.switch_jobs.specs.EndingSteps.{Leaves, AreOfPlans, IsRunOf}
 use Rattle.switch_jobs.proofs.Leaving.{output_left}
 

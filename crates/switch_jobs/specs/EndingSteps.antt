@@ -11,7 +11,7 @@ use Rattle.card_worker.specs.declared.hands.Hand.{Hand}
 use Rattle.switch_plan.specs.GoodPlans.{SwitchPlan}
 use Rattle.run_laws.specs.Runs.{ports_of, setup_for, run_journal}
 use Rattle.run_laws.specs.Ends.{IsLength}
-use Rattle.run_outcomes.specs.Outcomes.{IsOutput}
+use Rattle.run_laws.specs.Outcomes.{IsOutput}
 
 -- what the card leaves, over all that it may have taken
 abbrev pub Leaves : CardState → CardOut → Type 0

@@ -1,7 +1,7 @@
 ghost use Rattle.std.specs.Prelude.{IfOk, length};
 ghost use Rattle.switch_plan.specs.GoodPlans.{switch_plan_of, IsGood, IsBurst};
 ghost use Rattle.run_laws.specs.Promises.{CompletesMulticast, ServesWaiting, WaitsAreShort};
-ghost use Rattle.run_outcomes.specs.Outcomes.{IsOutcome};
+ghost use Rattle.run_laws.specs.Outcomes.{IsOutcome};
 ghost use Rattle.switch_jobs.specs.OneJournal.{IsOneJournal, WasTried};
 
 use crate::driving::drive_all;
@@ -12,7 +12,7 @@ use crate::sharing::{for_processors, share};
 use crate::summaries::summarize;
 use card_worker::Gate;
 use rotating_pick::OutOfMemory;
-use run_outcomes::Outcome;
+use run_laws::Outcome;
 use std::alloc::Global;
 use std::thread::Threads;
 use switch_plan::Plan;

@@ -14,8 +14,8 @@ use Rattle.switch_plan.specs.ReadingSteps.{bytes_of_files}
 use Rattle.run_laws.specs.Runs.{ports_of}
 use Rattle.run_laws.proofs.FirstDone.{one_length}
 use Rattle.run_laws.proofs.RunEnds.{run_ends}
-use Rattle.run_outcomes.specs.declared.outcome.Outcome.{Outcome}
-use Rattle.run_outcomes.specs.Outcomes.{IsOutcome, messages_under}
+use Rattle.run_laws.specs.declared.outcome.Outcome.{Outcome}
+use Rattle.run_laws.specs.Outcomes.{IsOutcome, messages_under}
 use Rattle.descriptor_runs.specs.declared.outputs.Captures.TheVariants.{Kept}
 use Rattle.descriptor_runs.specs.Outcomes.{IsRunOutcome, capture_under, line_under}
 use Rattle.switch_run.specs.MakingSteps.{HaveMessages, line_of_card}

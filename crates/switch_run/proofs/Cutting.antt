@@ -30,8 +30,8 @@ use Rattle.switch_plan.specs.GoodPlans.{SwitchPlan, IsGood}
 use Rattle.run_laws.specs.Runs.{card_at, no_plan, ports_of, parts_under}
 use Rattle.run_laws.specs.Ends.{IsLengthUnder}
 use Rattle.run_laws.specs.Crossings.{admitted_under, cells_under, queue_to}
-use Rattle.run_outcomes.specs.declared.outcome.Outcome.{Outcome}
-use Rattle.run_outcomes.specs.Outcomes.{IsOutcome, messages_under}
+use Rattle.run_laws.specs.declared.outcome.Outcome.{Outcome}
+use Rattle.run_laws.specs.Outcomes.{IsOutcome, messages_under}
 use Rattle.switch_jobs.specs.Captures.{IsCut}
 use Rattle.run_laws.proofs.Emptied.{packets_delivered}
 use Rattle.run_laws.proofs.OfFlows.{all_of_flows}

@@ -23,7 +23,7 @@ use Rattle.journal_check.specs.declared.limits.TheConstants.{MAX_JOURNAL_BYTES}
 use Rattle.switch_words.specs.Reading.{JobWords, run, gen, check, firm}
 use Rattle.run_laws.specs.Runs.{no_plan, ports_of, posts_under}
 use Rattle.run_laws.specs.Ends.{IsLengthUnder}
-use Rattle.run_outcomes.specs.Outcomes.{summary_under}
+use Rattle.run_laws.specs.Outcomes.{summary_under}
 use Rattle.run_journals.specs.RunFiles.{journal_text_under}
 use Rattle.packet_times.specs.declared.limits.TheConstants.{MAX_PACKETS_BYTES}
 use Rattle.packet_times.specs.Rows.{packets_text_under}

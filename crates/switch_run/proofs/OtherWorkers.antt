@@ -36,12 +36,12 @@ use Rattle.run_laws.specs.Runs.{after_slot, before_under, card_at, decision_in, 
 use Rattle.run_laws.specs.Ends.{IsLengthUnder}
 use Rattle.run_laws.specs.Crossings.{cells_under, queue_to}
 use Rattle.run_laws.specs.Sums.{IsAdmittedUnder, IsBestUnder}
-use Rattle.run_outcomes.specs.Outcomes.{over_ports, summary_under}
+use Rattle.run_laws.specs.Outcomes.{over_ports, summary_under}
 use Rattle.run_journals.specs.RunFiles.{journal_text_under}
 use Rattle.reference_run.specs.RunLines.{run_lines_under}
 use Rattle.queue_lengths.specs.Lengths.{deepest_of, greatest}
 use Rattle.queue_measures.specs.Lines.{deepest_line, input_lines, queue_lines_under}
-use Rattle.packet_departures.specs.Departures.{flow_of, is_end_of}
+use Rattle.run_laws.specs.Departures.{flow_of, is_end_of}
 use Rattle.packet_times.specs.Rows.{aside_row, departure_if, header, outputs_in, packets_text_under, routed_row, row_text, state_of}
 use Rattle.run_notes.specs.declared.wanted.Wanted.{Wanted}
 use Rattle.job_files.specs.Jobs.{settings_with, with_alone, with_workers}

@@ -18,7 +18,7 @@ use Rattle.journal_check.specs.declared.limits.TheConstants.{MAX_JOURNAL_BYTES}
 use Rattle.switch_plan.specs.GoodPlans.{SwitchPlan}
 use Rattle.switch_plan.specs.ReadingSteps.{bytes_of_files}
 use Rattle.run_laws.specs.Runs.{journal_under, ports_of}
-use Rattle.run_outcomes.specs.Outcomes.{messages_under, summary_under}
+use Rattle.run_laws.specs.Outcomes.{messages_under, summary_under}
 use Rattle.descriptor_runs.specs.declared.outputs.Captures.TheVariants.{Kept}
 use Rattle.descriptor_runs.specs.declared.running.RunOutcome.{RunOutcome}
 use Rattle.descriptor_runs.specs.Outcomes.{IsRunOutcome}

@@ -25,11 +25,11 @@ use Rattle.run_laws.specs.Ends.{IsLengthUnder}
 use Rattle.run_laws.specs.Promises.{ArrivalsComeFirst, BusySlotsMatchUnder, CompletesUnder, DeliversNoOthersUnder, DeliversUnder, HasFewSlotsUnder}
 use Rattle.run_laws.specs.Promises.{ServesUnder, WaitsUnder, bound_of}
 use Rattle.run_laws.specs.InTime.{CompletesInTimeUnder, ServesInTimeUnder}
-use Rattle.run_outcomes.specs.Outcomes.{summary_under, CountsPacketsOnce}
-use Rattle.run_outcomes.specs.Departures.{InterleavesFlowsUnder}
-use Rattle.buffer_sizing.specs.Sizing.{IsSized}
+use Rattle.run_laws.specs.Outcomes.{summary_under, CountsPacketsOnce}
+use Rattle.run_laws.specs.Interleaving.{InterleavesFlowsUnder}
+use Rattle.queue_measures.specs.Sizing.{IsSized}
 use Rattle.queue_measures.specs.Sums.{QueuesAddUpUnder}
-use Rattle.packet_departures.specs.Promises.{HasDeparturesUnder, CountsDepartures}
+use Rattle.run_laws.specs.DeparturePromises.{HasDeparturesUnder, CountsDepartures}
 use Rattle.departure_bounds.specs.Bounds.{ArrivalBounds}
 use Rattle.packet_times.specs.Sums.{RowsAddUp}
 use Rattle.run_journals.specs.RunFiles.{journal_text_under}

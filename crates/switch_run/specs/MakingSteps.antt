@@ -15,7 +15,7 @@ use Rattle.switch_words.specs.Reading.{JobWords, run, RunWords}
 use Rattle.switch_plan.specs.Refusals.{Terms, terms_of, IsRefusal}
 use Rattle.switch_plan.specs.GoodPlans.{SwitchPlan}
 use Rattle.run_laws.specs.Ends.{IsLengthUnder}
-use Rattle.run_outcomes.specs.Outcomes.{summary_under}
+use Rattle.run_laws.specs.Outcomes.{summary_under}
 use Rattle.journal_check.specs.declared.limits.TheConstants.{MAX_JOURNAL_BYTES}
 use Rattle.packet_times.specs.declared.limits.TheConstants.{MAX_PACKETS_BYTES}
 use Rattle.packet_times.specs.KeptSteps.{left}

@@ -19,7 +19,7 @@ use Rattle.named_schedulers.specs.Named.{decision_named}
 use Rattle.run_laws.specs.Runs.{ports_of, journal_under}
 use Rattle.run_laws.specs.Ends.{IsLengthUnder}
 use Rattle.run_laws.specs.Crossings.{cells_under}
-use Rattle.run_outcomes.specs.Outcomes.{messages_under, summary_under}
+use Rattle.run_laws.specs.Outcomes.{messages_under, summary_under}
 use Rattle.packet_times.specs.declared.limits.TheConstants.{MAX_PACKETS_BYTES}
 use Rattle.packet_times.specs.Rows.{packets_text_under}
 use Rattle.run_journals.specs.RunFiles.{journal_text_under}

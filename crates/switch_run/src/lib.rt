@@ -10,5 +10,5 @@ mod packets;
 mod texts;
 
 pub use command::switch_main;
-pub use run_outcomes::Outcome;
+pub use run_laws::Outcome;
 pub use switch_jobs::{Ready, output_bytes, run_job, run_ready, run_ready_with};

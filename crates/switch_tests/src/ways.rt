@@ -3,7 +3,7 @@ ghost use Rattle.std.specs.Prelude.{◌≡◌, ◌<◌, ◌^◌, vec_len, None, 
 use crate::captures::{ETHERNET, add_record};
 use card_worker::Gate;
 use rotating_pick::{MAX_FILE_BYTES, OutOfMemory};
-use run_outcomes::Outcome;
+use run_laws::Outcome;
 use scheduler_names::SchedulerName;
 use std::alloc::{AllocError, Global};
 use std::process::Abort;

@@ -9,8 +9,8 @@ use Rattle.std.proofs.lemmas.Simd.{map-map}
 use Rattle.rotating_pick.proofs.Bits.{no_member-zero}
 use Rattle.rotating_pick.specs.PortSets.{Has}
 use Rattle.cell_cutter.specs.declared.cell.CellName.{CellName}
-use Rattle.cell_rings.specs.declared.ring.QueuedCell.{QueuedCell}
-use Rattle.cell_rings.specs.CellQueues.{names_of_packet, cells_with_fan, empty_queue, queue_with}
+use Rattle.voq_banks.specs.declared.ring.QueuedCell.{QueuedCell}
+use Rattle.voq_banks.specs.CellQueues.{names_of_packet, cells_with_fan, empty_queue, queue_with}
 use Rattle.voq_banks.specs.Queues.{Queues, place_of, queue_at, spare_at, Waits, OthersStay, empty_queues}
 use Rattle.voq_banks.specs.FieldSteps.{Kept, names_of, queues_in, ring_at, HasDepth, AreMasks, AreKept}
 

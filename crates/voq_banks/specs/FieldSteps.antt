@@ -3,7 +3,7 @@ use Rattle.std.specs.Prelude.{◌≡◌, ℕ, ◌*◌, ◌<◌, ◌≤◌, ◌�
 use Rattle.rotating_pick.specs.PortSets.{Has}
 use Rattle.rotating_pick.specs.declared.limits.TheConstants.{LEVELS, MAX_PORTS}
 use Rattle.cell_cutter.specs.declared.cell.CellName.{CellName}
-use Rattle.cell_rings.specs.CellQueues.{CellQueue, empty_queue}
+use Rattle.voq_banks.specs.CellQueues.{CellQueue, empty_queue}
 use Rattle.voq_banks.specs.Queues.{Queues, Waits}
 
 -- a queue of which nothing is kept beside the names of its cells

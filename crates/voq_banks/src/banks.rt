@@ -1,10 +1,10 @@
 ghost use Rattle.std.specs.Prelude.{◌≡◌, ◌≢◌, ℕ, ◌+◌, ◌-◌, ◌*◌, ◌<◌, ◌≤◌, ◌↔◌, [], ◌∷◌, ◌++◌, map, length, nat_le, false, IfOk, IsTrue, if◌then◌else◌};
 ghost use Rattle.rotating_pick.specs.PortSets.{Has};
-ghost use Rattle.cell_rings.specs.CellQueues.{names_of_packet, empty_queue};
+ghost use Rattle.voq_banks.specs.CellQueues.{names_of_packet, empty_queue};
 ghost use Rattle.voq_banks.specs.Queues.{empty_queues, place_of, queue_at, spare_at, Waits, OthersStay};
 
+use crate::ring::CellRing;
 use cell_cutter::{CellName, MAX_FORWARDED_CELLS};
-use cell_rings::CellRing;
 use rotating_pick::{LEVELS, MAX_PORTS, OutOfMemory, Ports, with, without};
 use std::alloc::{AllocError, Global};
 use std::marker::Model;

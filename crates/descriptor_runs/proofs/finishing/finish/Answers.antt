@@ -3,7 +3,7 @@ use Rattle.std.specs.List.{sum_by}
 use Rattle.slot_report.specs.declared.summary.OutLine.{OutLine}
 use Rattle.run_laws.specs.Runs.{ports_of}
 use Rattle.run_laws.specs.Crossings.{cells_under}
-use Rattle.run_outcomes.specs.Outcomes.{messages_under}
+use Rattle.run_laws.specs.Outcomes.{messages_under}
 use Rattle.slot_records.specs.Slots.{AddsNothing}
 use Rattle.descriptor_runs.specs.InputSteps.{InputValue}
 use Rattle.descriptor_runs.proofs.RunEnd.{dropped_fits, admitted_fits, packets_fit, cells_fit, captures_are, these_lines, summary_is}

@@ -12,8 +12,8 @@ use Rattle.run_laws.specs.Runs.{setup_for}
 use Rattle.run_laws.specs.Promises.{CompletesMulticast, ServesWaiting, WaitsAreShort}
 use Rattle.run_laws.proofs.RunWindows.{served-in-window, waits-short}
 use Rattle.run_laws.proofs.RunCompletes.{heads-complete}
-use Rattle.run_outcomes.specs.declared.outcome.Outcome.{Outcome}
-use Rattle.run_outcomes.specs.Outcomes.{IsOutcome}
+use Rattle.run_laws.specs.declared.outcome.Outcome.{Outcome}
+use Rattle.run_laws.specs.Outcomes.{IsOutcome}
 use Rattle.switch_jobs.specs.ReadinessSteps.{plan_with, plans_in}
 use Rattle.switch_jobs.specs.OneJournal.{HaveWaited, WasTried}
 use Rattle.switch_jobs.specs.SharingSteps.{ArePlanned, AreUnrefused}

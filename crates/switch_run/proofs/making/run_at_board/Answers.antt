@@ -1,7 +1,7 @@
 use Rattle.std.proofs.Common.{map, ◌∙◌, ap}
 use Rattle.switch_plan.specs.GoodPlans.{switch_plan_of}
 use Rattle.eslip_rounds.specs.Decisions.{decision_of}
-use Rattle.run_outcomes.specs.Outcomes.{messages_under}
+use Rattle.run_laws.specs.Outcomes.{messages_under}
 use Rattle.switch_run.specs.MakingSteps.{line_of_card}
 use Rattle.switch_run.proofs.BoardRuns.{have_messages, left_at_board}
 use Rattle.switch_run.proofs.Cutting.{cut_outputs}

@@ -1,5 +1,5 @@
 use Rattle.std.proofs.Common.{◌≡◌, map, take}
-use Rattle.cell_rings.specs.CellQueues.{empty_queue}
+use Rattle.voq_banks.specs.CellQueues.{empty_queue}
 use Rattle.voq_banks.proofs.banks.queues.Given as goal
 
 abbrev pub invariant-loop-packets : goal.invariant-loop-packets

@@ -1,5 +1,5 @@
 use Rattle.std.proofs.Common.{◌≡◌, ◌∙◌, ◌<◌, ◌≤◌, ◌+◌, ◌-◌, ◌++◌, length, ap, sym, subst, arith, refl, inl, inr}
-use Rattle.cell_rings.specs.CellQueues.{names_of_packet}
+use Rattle.voq_banks.specs.CellQueues.{names_of_packet}
 use Rattle.voq_banks.specs.Queues.{queue_at, spare_at, place_of}
 use Rattle.voq_banks.specs.FieldSteps.{names_of}
 use Rattle.voq_banks.proofs.Banking.{place-lt, found_is, queue-of_ring, spare-of_ring, count-of_ring, names-admitted, queue-set, spare-set, others-set}

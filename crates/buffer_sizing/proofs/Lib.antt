@@ -1,8 +1,0 @@
-mod Rooms
-mod SameCards
-mod Deepest
-mod Depths
-mod SamePosts
-mod SameRuns
-pub mod GreatestDepth
-mod Sized

@@ -1,8 +1,0 @@
-use Rattle.buffer_sizing.proofs.Depths.{IsGood-depth, IsBurst-depth}
-use Rattle.buffer_sizing.proofs.laws.depths_are_good.Goals as goal
-
-pub returns : goal.returns
-returns c = record {
-  good = λ plan depth good some. IsGood-depth depth plan good some;
-  burst = λ plan depth burst few. IsBurst-depth depth plan burst few;
-}

@@ -1,4 +1,0 @@
-pub mod CellQueues
-pub mod CodeSteps
-pub mod RunSteps
-pub mod FieldSteps

@@ -1,7 +1,0 @@
-mod FlowEnds
-mod Leaving
-mod InOrder
-mod LastCells
-mod Earlier
-mod Earliest
-pub mod Copies

@@ -1,5 +1,0 @@
-use Rattle.packet_departures.proofs.InOrder.{in_order}
-use Rattle.packet_departures.proofs.laws.records_are_in_order.Goals as goal
-
-pub returns : goal.returns
-returns c = λ scheduler plan slots scheduling good ends. in_order scheduler scheduling plan good slots ends

@@ -1,5 +1,0 @@
-use Rattle.port_square.proofs.Exchanging.{Exchanging}
-use Rattle.port_square.proofs.square.exchange.Given as goal
-
-abbrev pub invariant-loop-r : goal.invariant-loop-r
-invariant-loop-r l = Exchanging l.k l.r l.fn.rows l.rows

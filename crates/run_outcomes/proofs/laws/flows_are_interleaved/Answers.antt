@@ -1,5 +1,0 @@
-use Rattle.run_outcomes.proofs.Departing.{departures-are}
-use Rattle.run_outcomes.proofs.laws.flows_are_interleaved.Goals as goal
-
-pub returns : goal.returns
-returns c scheduler plan slots scheduling good ends j to = departures-are scheduler scheduling plan good slots ends j to

@@ -1,5 +1,0 @@
-use Rattle.run_outcomes.proofs.Counted.{counted-once}
-use Rattle.run_outcomes.proofs.laws.packets_are_counted_once.Goals as goal
-
-pub returns : goal.returns
-returns c scheduler plan slots good ends = counted-once scheduler plan slots good ends
