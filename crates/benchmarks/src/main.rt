@@ -8,9 +8,9 @@
 mod board;
 mod captures;
 mod cards;
-mod copying;
+mod copies;
 mod decisions;
-mod planning;
+mod plans;
 mod reading;
 mod runs;
 mod waits;

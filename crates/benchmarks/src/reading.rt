@@ -1,7 +1,7 @@
 //! How long the plan of captures takes beside a reading of their bytes, and beside adding them up.
 use crate::captures::{Load, captures_of, table_of};
-use crate::copying::Copies;
-use crate::planning::planned;
+use crate::copies::Copies;
+use crate::plans::planned;
 use std::io;
 use std::thread::Threads;
 use std::time::{Clock, Instant};

@@ -4,7 +4,7 @@ ghost use Rattle.switch_words.specs.Limits.{IsUpTo};
 ghost use Rattle.switch_plan.specs.GoodPlans.{switch_plan_of, IsGood, IsBurst};
 
 use crate::captures::{Load, captures_of, table_of};
-use crate::planning::planned;
+use crate::plans::planned;
 use card_worker::{Gate, OpenGate};
 use rotating_pick::MAX_PORTS;
 use std::alloc::Global;

@@ -4,7 +4,7 @@
 //! memory is taken when it is made: no event takes any.
 #![tactic(auto)]
 
-mod accepting;
+mod acceptance;
 mod books;
 mod counts;
 mod journal;
@@ -12,7 +12,7 @@ mod limits;
 mod posts;
 mod state;
 
-pub use accepting::is_accepted;
+pub use acceptance::is_accepted;
 pub use books::CardBook;
 pub use journal::Journal;
 pub use limits::{MAX_SLOTS, MAX_SLOTS_WIDE, limits_are};

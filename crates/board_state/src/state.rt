@@ -22,8 +22,8 @@ use slot_match::{Match, Row, Served};
 use std::alloc::{AllocError, Global};
 use std::marker::Model;
 
-mod adding;
-mod allowing;
+mod additions;
+mod permissions;
 mod slots;
 
 /// The state of a board: what was posted, decided and taken.

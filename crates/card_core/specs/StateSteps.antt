@@ -15,7 +15,7 @@ use Rattle.voq_banks.specs.Queues.{Queues as UniQueues, queue_at as uni_at, spar
 use Rattle.voq_banks.specs.CellQueues.{names_of_packet, cells_with_fan}
 use Rattle.multicast_queue.specs.FanQueues.{Queues as FanQueues, FanCell, queue_at as fan_at, first_name, HeadLeaves, HeadStays, OthersStay}
 use Rattle.card_core.specs.declared.plan.Planned.{Planned}
-use Rattle.card_core.specs.declared.entering.Count.{Count}
+use Rattle.card_core.specs.declared.arrivals.Count.{Count}
 use Rattle.card_core.specs.Plans.{OfOutput, OfLevel, size_of}
 use Rattle.card_core.specs.Queues.{counted}
 use Rattle.card_core.specs.States.{packets_for}

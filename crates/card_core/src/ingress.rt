@@ -4,14 +4,14 @@ ghost use Rattle.card_core.specs.Plans.{IsGoodPlan, IsSmallPlan, plan_of};
 ghost use Rattle.card_core.specs.Posts.{post_at, IsServable};
 ghost use Rattle.card_core.specs.States.{HasSent};
 
-use crate::cutting::cell_for;
-use crate::entering::{enter, next_arrival};
+use crate::arrivals::{enter, next_arrival};
+use crate::cells::cell_for;
 use crate::limits::MAX_SLOTS;
 use crate::plan::CardPlan;
-use crate::posting::is_more;
+use crate::posts::is_more;
 use crate::queues::Queues;
 use crate::rooms::count_rooms;
-use crate::serving::is_servable;
+use crate::served_parts::is_servable;
 use cell_cutter::Cell;
 use crossbar::Post;
 use rotating_pick::OutOfMemory;

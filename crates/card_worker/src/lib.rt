@@ -2,9 +2,9 @@
 #![tactic(auto)]
 
 mod alone;
-mod closing;
-mod disbanding;
-mod driving;
+mod close;
+mod disbandment;
+mod driver;
 mod hands;
 pub mod laws;
 #[cfg(test)]
@@ -12,7 +12,7 @@ mod tests;
 mod tries;
 
 pub use alone::finish_alone;
-pub use closing::close_with;
-pub use disbanding::disband;
-pub use driving::drive;
+pub use close::close_with;
+pub use disbandment::disband;
+pub use driver::drive;
 pub use hands::{Gate, Group, Hand, Hands, Member, OpenGate};

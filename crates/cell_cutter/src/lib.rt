@@ -6,13 +6,13 @@
 #![tactic(auto)]
 
 mod cell;
-mod cutting;
-mod joining;
+mod cutter;
+mod joined_cells;
 mod sizes;
 
 pub use cell::{Cell, CellName};
-pub use cutting::{Packet, cells_of, cut};
-pub use joining::cells_join;
+pub use cutter::{Packet, cells_of, cut};
+pub use joined_cells::cells_join;
 pub use sizes::{
     CELL_BYTES, CELL_HEADER_BYTES, MAX_CAPTURED_BYTES, MAX_CAPTURED_CELLS, MAX_FORWARDED_BYTES,
     MAX_FORWARDED_CELLS, MAX_MESSAGE_BYTES, MAX_NUMBER, MESSAGE_HEADER_BYTES, PAYLOAD_BYTES,

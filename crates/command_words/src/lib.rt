@@ -9,11 +9,11 @@ mod fault;
 mod numbers;
 mod options;
 mod parts;
-mod reading;
+mod reader;
 mod words;
 
 pub use fault::WordsFault;
 pub use numbers::{MAX_DIGITS, limits_are, number_within};
 pub use options::OptionNames;
 pub use parts::Parts;
-pub use reading::parts_of;
+pub use reader::parts_of;

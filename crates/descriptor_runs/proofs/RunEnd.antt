@@ -28,7 +28,7 @@ use Rattle.descriptor_runs.specs.OutputSteps.{OutputValue, HasCome, AreKeeping}
 use Rattle.descriptor_runs.specs.SwitchSteps.{AreInputs, AreOutputs, IsBefore}
 use Rattle.descriptor_runs.specs.Outcomes.{capture_under, captures_by, line_under}
 use Rattle.descriptor_runs.specs.FinishingSteps.{ArePlanNumbers, line_of}
-use Rattle.descriptor_runs.specs.declared.finishing.PlanNumbers.{PlanNumbers}
+use Rattle.descriptor_runs.specs.declared.ends.PlanNumbers.{PlanNumbers}
 use Rattle.descriptor_runs.specs.declared.outputs.Captures.{Captures}
 use Rattle.descriptor_runs.specs.declared.outputs.Captures.TheVariants.{Kept, Dropped}
 use Rattle.descriptor_runs.specs.declared.switch.Switch.{Switch}

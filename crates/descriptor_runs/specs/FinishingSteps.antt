@@ -3,7 +3,7 @@ use Rattle.std.specs.Prelude.{◌≡◌, length, sum_by}
 use Rattle.slot_report.specs.declared.summary.OutLine.{OutLine}
 use Rattle.switch_plan.specs.GoodPlans.{SwitchPlan, packets_in}
 use Rattle.descriptor_runs.specs.OutputSteps.{OutputValue}
-use Rattle.descriptor_runs.specs.declared.finishing.PlanNumbers.{PlanNumbers}
+use Rattle.descriptor_runs.specs.declared.ends.PlanNumbers.{PlanNumbers}
 
 -- These are the numbers of the plan that the summary of its run tells.
 pub record ArePlanNumbers (plan : SwitchPlan) (numbers : PlanNumbers) : Type 0 where

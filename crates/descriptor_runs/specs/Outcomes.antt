@@ -11,7 +11,7 @@ use Rattle.run_laws.specs.Crossings.{cells_under}
 use Rattle.run_laws.specs.Outcomes.{messages_under, summary_under}
 use Rattle.descriptor_runs.specs.declared.outputs.Captures.{Captures}
 use Rattle.descriptor_runs.specs.declared.outputs.Captures.TheVariants.{Kept, Dropped}
-use Rattle.descriptor_runs.specs.declared.running.RunOutcome.{RunOutcome}
+use Rattle.descriptor_runs.specs.declared.runs.RunOutcome.{RunOutcome}
 
 -- the capture of output j in a run of so many slots
 abbrev pub capture_under : Scheduler → SwitchPlan → ℕ → ℕ → List ℕ

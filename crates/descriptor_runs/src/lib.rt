@@ -5,15 +5,15 @@
 #![tactic(auto)]
 
 mod cell_names;
-mod finishing;
+mod ends;
 mod input_ports;
 mod inputs;
-mod noting;
 mod outputs;
+mod posts;
 mod requests;
-mod running;
-mod serving;
+mod runs;
+mod service;
 mod switch;
 
 pub use outputs::Captures;
-pub use running::{RunOutcome, run_by_descriptors};
+pub use runs::{RunOutcome, run_by_descriptors};

@@ -8,7 +8,7 @@ ghost use Rattle.descriptor_runs.specs.SwitchSteps.{IsBefore, IsDecided, IsActiv
 use crate::cell_names::CellNames;
 use crate::input_ports::InputPorts;
 use crate::outputs::{Captures, Output};
-use crate::serving::{feed_outputs, serve_inputs, served_inputs};
+use crate::service::{feed_outputs, serve_inputs, served_inputs};
 use card_core::CardPlan;
 use crossbar::Post;
 use islip_rounds::RoundsUsed;

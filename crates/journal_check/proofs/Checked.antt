@@ -7,7 +7,7 @@ use Rattle.scheduler_names.specs.declared.names.SchedulerName.{SchedulerName}
 use Rattle.named_schedulers.specs.Named.{decision_named}
 use Rattle.journal_check.specs.declared.header.Header.{Header}
 use Rattle.journal_check.specs.declared.slots.SlotRead.{SlotRead}
-use Rattle.journal_check.specs.declared.judging.Judge.{Judge}
+use Rattle.journal_check.specs.declared.judge.Judge.{Judge}
 use Rattle.journal_check.specs.declared.verdict.Verdict.{Verdict}
 use Rattle.journal_check.specs.declared.verdict.JournalFault.{JournalFault}
 use Rattle.journal_check.specs.declared.verdict.JournalFault.TheVariants.{Bad}

@@ -14,7 +14,7 @@ use Rattle.service_bound.specs.MeterSteps.{HasNoted}
 use Rattle.journal_check.specs.declared.slots.SlotRead.{SlotRead}
 use Rattle.journal_check.specs.declared.verdict.Failure.{Failure}
 use Rattle.journal_check.specs.declared.verdict.Reason.{Reason}
-use Rattle.journal_check.specs.declared.judging.Judge.{Judge}
+use Rattle.journal_check.specs.declared.judge.Judge.{Judge}
 use Rattle.journal_check.specs.Files.{FileSlot, JournalFile, rows_of}
 use Rattle.journal_check.specs.Lawful.{Before, at_first, after_slot, failure_in, failure_or, failure_from, first_failure_under}
 use Rattle.journal_check.specs.Verdicts.{noted_of, longest_waits, verdict_by, verdict_under}

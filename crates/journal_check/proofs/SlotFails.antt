@@ -13,7 +13,7 @@ use Rattle.named_schedulers.specs.Named.{decision_named}
 use Rattle.named_schedulers.proofs.Schedulers.{IsScheduler-named}
 use Rattle.journal_check.specs.declared.slots.SlotRead.{SlotRead}
 use Rattle.journal_check.specs.declared.verdict.Reason.{Reason}
-use Rattle.journal_check.specs.declared.judging.Judge.{Judge}
+use Rattle.journal_check.specs.declared.judge.Judge.{Judge}
 use Rattle.journal_check.specs.Files.{FileSlot, rows_of, mores_of}
 use Rattle.journal_check.specs.Lawful.{Before, decided_in, after_slot, post_failure, output_failure, failure_in}
 use Rattle.journal_check.specs.Steps.{IsSlotRead, before_of}

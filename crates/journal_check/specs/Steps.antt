@@ -7,7 +7,7 @@ use Rattle.service_bound.specs.MeterSteps.{HasNoted}
 use Rattle.journal_check.specs.declared.header.Header.{Header}
 use Rattle.journal_check.specs.declared.slots.SlotRead.{SlotRead}
 use Rattle.journal_check.specs.declared.verdict.Failure.{Failure}
-use Rattle.journal_check.specs.declared.judging.Judge.{Judge}
+use Rattle.journal_check.specs.declared.judge.Judge.{Judge}
 use Rattle.journal_check.specs.Fields.{Reading}
 use Rattle.journal_check.specs.Files.{FileSlot, rows_of, mores_of}
 use Rattle.journal_check.specs.Lawful.{Before, at_first, failure_from}

@@ -25,7 +25,7 @@ ghost use Rattle.journal_check.specs.declared.verdict.Verdict.TheVariants.{Yes, 
 ghost use Rattle.journal_check.specs.Verdicts.{yes_on, answer_under, answer_to};
 ghost use Rattle.journal_check.specs.Failures.{AreLawfulUnder, AreNotLawfulUnder};
 
-use crate::writing::journal_len;
+use crate::bytes::journal_len;
 use board_state::Journal;
 
 /// What is spelled of a file is read again: just that file. What is read is what a file can tell, and bytes

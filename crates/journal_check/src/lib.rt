@@ -4,20 +4,20 @@
 //! file has, and compares.
 #![tactic(auto)]
 
-mod checking;
+mod bytes;
+mod check;
 mod fields;
-mod growing;
 mod header;
-mod judging;
+mod judge;
 pub mod laws;
 mod limits;
 mod posts;
 mod slots;
 mod verdict;
-mod writing;
+mod writer;
 
-pub use checking::{check_journal, check_journal_by};
-pub use growing::JournalWriter;
+pub use bytes::{journal_bytes, journal_len};
+pub use check::{check_journal, check_journal_by};
 pub use limits::{MAX_JOURNAL_BYTES, limits_are};
 pub use verdict::{JournalFault, Reason, Verdict};
-pub use writing::{journal_bytes, journal_len};
+pub use writer::JournalWriter;

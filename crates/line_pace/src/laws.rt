@@ -2,7 +2,7 @@
 
 ghost use Rattle.std.specs.Prelude.{◌≡◌};
 
-use crate::arriving::{MAX_ARRIVAL_SLOTS, MAX_CAPTURE_PACKETS};
+use crate::arrival_slots::{MAX_ARRIVAL_SLOTS, MAX_CAPTURE_PACKETS};
 use crate::pace::{MAX_LINE_RATE, MAX_SLOT_MICROS};
 use cell_cutter::MAX_CAPTURED_CELLS;
 

@@ -2,14 +2,14 @@
 //! gives one out at each output at which one waits.
 #![tactic(auto)]
 
-mod checking;
 mod coming;
-mod entering;
+mod entries;
 mod inputs;
 pub mod laws;
 mod line;
 mod reference;
 mod rooms;
+mod size_checks;
 mod tally;
 mod text;
 

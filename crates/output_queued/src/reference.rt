@@ -13,11 +13,11 @@ ghost use Rattle.output_queued.specs.NotingSteps.{HasNoted, MayNote, cards_in, s
 ghost use Rattle.output_queued.specs.QuietSteps.{IsQuietFor};
 ghost use Rattle.output_queued.specs.Steps.{SameSwitch, Ticks};
 
-use crate::checking::{are_inputs, are_sizes};
 use crate::coming::Coming;
-use crate::entering::{let_in, take_served};
+use crate::entries::{let_in, take_served};
 use crate::inputs::Input;
 use crate::line::RefLine;
+use crate::size_checks::{are_inputs, are_sizes};
 use crate::tally::Tally;
 use card_core::MAX_SLOTS;
 use rotating_pick::{Kind, OutOfMemory, PORT_COUNT, Ports, contains, lowest, without};

@@ -13,7 +13,7 @@ use Rattle.card_core.specs.declared.plan.Planned.{Planned}
 use Rattle.card_core.specs.Plans.{Plan, AreRising, arriving, arriving_from, no_packet, queue_of}
 use Rattle.card_core.specs.Queues.{is_routed, is_admitted, fits}
 use Rattle.card_core.specs.States.{IsNext}
-use Rattle.queue_lengths.specs.declared.counting.Arrival.{Arrival}
+use Rattle.queue_lengths.specs.declared.counters.Arrival.{Arrival}
 use Rattle.queue_lengths.specs.Counters.{Counters, CountBefore, CountIn, arrival_in}
 use Rattle.run_laws.proofs.SameParts.{before-alike}
 use Rattle.packet_times.specs.NotingSteps.{Input, was_admitted, IsNoted}

@@ -10,7 +10,7 @@ use Rattle.rotating_pick.specs.declared.limits.TheConstants.{LEVELS, MAX_PORTS}
 use Rattle.rotating_pick.specs.PortSets.{Has}
 use Rattle.card_core.specs.declared.plan.Planned.{Planned}
 use Rattle.card_core.specs.Plans.{kind_of, queue_of}
-use Rattle.packet_times.specs.declared.going.TheConstants.{MOST_FLOWS}
+use Rattle.packet_times.specs.declared.flow_counts.TheConstants.{MOST_FLOWS}
 use Rattle.packet_times.specs.Rows.{outputs_in}
 use Rattle.packet_times.specs.WalkingSteps.{own_place, one_more, with_one, IsCounted}
 use Rattle.packet_times.specs.KeptSteps.{counts_with}

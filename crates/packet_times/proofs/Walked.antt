@@ -23,7 +23,7 @@ use Rattle.run_laws.specs.Promises.{ArrivalsComeFirst}
 use Rattle.run_laws.specs.Crossings.{queue_to}
 use Rattle.run_laws.proofs.Base.{good-card, served-length}
 use Rattle.run_laws.specs.Departures.{Flow, flow_of, ends_of, goes_by, earlier_by, departure_under}
-use Rattle.packet_times.specs.declared.going.TheConstants.{MOST_FLOWS}
+use Rattle.packet_times.specs.declared.flow_counts.TheConstants.{MOST_FLOWS}
 use Rattle.packet_times.specs.NotingSteps.{Times, no_input, IsFlow, flow_place, was_admitted, HasNoted}
 use Rattle.packet_times.specs.WalkingSteps.{own_place, one_more, IsCounted, HasGone}
 use Rattle.packet_times.specs.KeptSteps.{kept_ports}

@@ -7,7 +7,7 @@ use Rattle.cell_cutter.specs.declared.sizes.TheConstants.{MAX_FORWARDED_BYTES}
 use Rattle.card_core.specs.declared.plan.Planned.{Planned}
 use Rattle.card_core.specs.Plans.{kind_of, queue_of}
 use Rattle.card_core.specs.Queues.{is_routed}
-use Rattle.packet_times.specs.declared.going.TheConstants.{MOST_FLOWS}
+use Rattle.packet_times.specs.declared.flow_counts.TheConstants.{MOST_FLOWS}
 use Rattle.packet_times.specs.declared.state.PacketState.{PacketState}
 use Rattle.packet_times.specs.declared.state.PacketState.TheVariants.{Forwarded, Dropped, Unrouted, Oversize}
 use Rattle.packet_times.specs.declared.walk.Outcome.{Outcome}

@@ -7,7 +7,7 @@ use Rattle.card_core.specs.declared.plan.Planned.{Planned}
 use Rattle.switch_plan.specs.GoodPlans.{SwitchPlan}
 use Rattle.run_laws.specs.Runs.{ports_of, card_at, parts_under}
 use Rattle.run_laws.specs.Departures.{Flow, earlier_by, departure_under}
-use Rattle.packet_times.specs.declared.going.TheConstants.{MOST_FLOWS}
+use Rattle.packet_times.specs.declared.flow_counts.TheConstants.{MOST_FLOWS}
 use Rattle.packet_times.specs.NotingSteps.{IsFlow, kind_place}
 use Rattle.packet_times.specs.Rows.{state_of, routed_row, departure_if}
 

@@ -3,7 +3,7 @@
 
 mod ends;
 mod fields;
-mod going;
+mod flow_counts;
 mod inputs;
 pub mod laws;
 mod limits;

@@ -7,7 +7,7 @@ ghost use Rattle.packet_times.specs.KeptSteps.{is_flow, begun, kept_departure, k
 
 use crate::ends::place_of_flow;
 use crate::fields::{Leaving, Row};
-use crate::going::{MOST_FLOWS, count_at, count_packet, place_of_own};
+use crate::flow_counts::{MOST_FLOWS, count_at, count_packet, place_of_own};
 use crate::rows::kind_of;
 use crate::times::PacketTimes;
 use card_core::Planned;

@@ -13,7 +13,7 @@ use Rattle.card_core.proofs.Arriving.{is_queue-refl}
 use Rattle.queue_lengths.specs.Lengths.{IsQueue, place_of, count_of, length_before}
 use Rattle.queue_lengths.specs.Counters.{Counters, CountBefore, CountIn, arrival_in}
 use Rattle.queue_lengths.specs.Steps.{MayEnter, place_for, enters_at, lengths_with}
-use Rattle.queue_lengths.specs.declared.counting.Arrival.{Arrival}
+use Rattle.queue_lengths.specs.declared.counters.Arrival.{Arrival}
 use Rattle.queue_lengths.proofs.Places.{place-inside, place-same, IsQueue-packet}
 use Rattle.queue_lengths.proofs.Lengths.{gain, in_count, before_few}
 use Rattle.card_core.proofs.NextPackets.{next-none, next-there, next-one}

@@ -6,7 +6,7 @@ use Rattle.card_core.specs.Plans.{Plan, Queue, IsGoodPlan, arriving}
 use Rattle.card_core.specs.Queues.{is_routed, is_admitted}
 use Rattle.card_core.specs.Posts.{row_at, IsServable}
 use Rattle.card_core.specs.States.{IsNext}
-use Rattle.queue_lengths.specs.declared.counting.Arrival.{Arrival}
+use Rattle.queue_lengths.specs.declared.counters.Arrival.{Arrival}
 use Rattle.queue_lengths.specs.Lengths.{IsQueue, place_of, length_before, length_in, count_of}
 
 -- The ports of the switch, the most cells of a queue, the input's packets, how many of them have come, and how many cells

@@ -17,7 +17,7 @@ use Rattle.card_core.specs.Queues.{is_routed, is_admitted, enters}
 use Rattle.card_core.proofs.Passing.{arriving-there, is_queue-same}
 use Rattle.card_core.proofs.Arriving.{is_queue-refl}
 use Rattle.card_core.proofs.Taking.{one_slot}
-use Rattle.queue_lengths.specs.declared.counting.Arrival.{Arrival}
+use Rattle.queue_lengths.specs.declared.counters.Arrival.{Arrival}
 use Rattle.queue_lengths.specs.Counters.{Counters, CountBefore, CountIn, arrival_in}
 use Rattle.queue_lengths.specs.Lengths.{IsQueue, count_of, place_of, is_for, length_in}
 use Rattle.queue_measures.specs.declared.numbers.QueueNumbers.{QueueNumbers}

@@ -9,7 +9,7 @@ use Rattle.slot_report.specs.Lines.{lines_text}
 use Rattle.slot_report.specs.Texts.{map_with_place}
 use Rattle.card_core.specs.Plans.{Queue, OfOutput, OfLevel, queue_of, size_of}
 use Rattle.card_core.specs.Queues.{is_routed}
-use Rattle.queue_lengths.specs.declared.counting.Arrival.{Arrival}
+use Rattle.queue_lengths.specs.declared.counters.Arrival.{Arrival}
 use Rattle.queue_lengths.specs.Lengths.{count_of, place_of}
 use Rattle.queue_measures.specs.declared.numbers.QueueNumbers.{QueueNumbers}
 use Rattle.queue_measures.specs.Lines.{queue_line}

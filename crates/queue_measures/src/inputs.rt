@@ -7,7 +7,7 @@ ghost use Rattle.slot_match.specs.declared.matching.Served.{Served as AServed};
 ghost use Rattle.card_core.specs.Plans.{Plan, IsGoodPlan, plan_of};
 ghost use Rattle.card_core.specs.Posts.{row_at, IsServable};
 ghost use Rattle.queue_lengths.specs.Lengths.{count_of};
-ghost use Rattle.queue_lengths.specs.declared.counting.Arrival.{Arrival as AnArrival};
+ghost use Rattle.queue_lengths.specs.declared.counters.Arrival.{Arrival as AnArrival};
 ghost use Rattle.queue_measures.specs.NotingSteps.{IsCounted, IsNoted, no_numbers};
 ghost use Rattle.queue_measures.specs.Steps.{HasRoom, MayCount, with_arrival, with_arrivals, deepest_in};
 

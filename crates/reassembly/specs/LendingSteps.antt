@@ -3,7 +3,7 @@ use Rattle.std.specs.Prelude.{◌≡◌, ⊤}
 use Rattle.std.specs.Borrow.{follows_so, MutBor, Fml}
 use mathlib.Core.Option.{none}
 use Rattle.reassembly.specs.Flows.{Flows}
-use Rattle.reassembly.specs.contracts.assembling.Reassembly.{the_row}
+use Rattle.reassembly.specs.contracts.assembly.Reassembly.{the_row}
 
 -- it has these flows
 abbrev pub EndsAs : MutBor Flows → Flows → Fml

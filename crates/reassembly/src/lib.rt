@@ -4,13 +4,13 @@
 //! its cells are written in place; with its last cell a message is whole.
 #![tactic(auto)]
 
-mod assembling;
+mod assembly;
 mod buffer;
-mod cutting;
-mod filling;
+mod cut_flows;
 mod limits;
+mod put_messages;
 
-pub use assembling::{Finished, Reassembly};
-pub use cutting::flow_is_cut;
-pub use filling::message_is_put;
+pub use assembly::{Finished, Reassembly};
+pub use cut_flows::flow_is_cut;
 pub use limits::FLOWS_PER_INPUT;
+pub use put_messages::message_is_put;

@@ -2,6 +2,6 @@
 #![tactic(auto)]
 
 pub mod laws;
-mod making;
+mod reference;
 
-pub use making::reference_of;
+pub use reference::reference_of;

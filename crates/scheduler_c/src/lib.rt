@@ -11,11 +11,11 @@ mod four_levels;
 mod many_slots;
 mod matches;
 mod one_level;
+mod queue_sets;
 mod rows;
 mod status;
 #[cfg(test)]
 mod tests;
-mod waiting;
 mod waits;
 mod words;
 

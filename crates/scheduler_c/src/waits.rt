@@ -4,9 +4,9 @@ ghost use Rattle.rotating_pick.specs.declared.limits.TheConstants.{LEVELS};
 ghost use Rattle.scheduler_c.specs.Waits.{IsNoteCall, AreNoted, AreNotedBy, AreLongest, slot_from, word_at, wait_next};
 
 use crate::feeds::{FeedWords, are_feeds};
+use crate::queue_sets::{PLACES, waiting_sets};
 use crate::rows::are_rows;
 use crate::status::{DONE, REFUSED};
-use crate::waiting::{PLACES, waiting_sets};
 use rotating_pick::{LEVEL_COUNT, MAX_PORTS, PORT_COUNT, Ports, contains, is_empty};
 use slot_match::Row;
 

@@ -5,7 +5,7 @@ use Rattle.outside.specs.Contents.{Contents}
 use Rattle.outside.specs.Faults.{Place, ToErr, ToOut, NeverFall, NoneRose}
 use Rattle.outside.proofs.Counting.{NeverFall-Rose, NeverFall-trans, Rose-NeverFall}
 use Rattle.simulated_slots.specs.Jobs.{places_of}
-use Rattle.simulation_words.specs.declared.reading.SimulationWords.{SimulationWords}
+use Rattle.simulation_words.specs.declared.reader.SimulationWords.{SimulationWords}
 use Rattle.simulation_command.specs.declared.fault.CommandFault.{CommandFault}
 use Rattle.simulation_command.specs.declared.fault.CommandFault.TheVariants.{Usage, TooManyCells, OutOfMemory, OutFault}
 use Rattle.simulation_command.specs.Endings.{Command, IsDone, Stops, command_of, status_of}

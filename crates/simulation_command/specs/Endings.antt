@@ -6,7 +6,7 @@ use Rattle.outside.specs.Faults.{Place, ToOut, ToErr, Rose}
 use Rattle.simulated_slots.specs.Jobs.{places_of}
 use Rattle.simulated_runs.specs.Numbers.{numbers_of}
 use Rattle.simulation_words.specs.Reading.{simulation_of}
-use Rattle.simulation_words.specs.declared.reading.SimulationWords.{SimulationWords}
+use Rattle.simulation_words.specs.declared.reader.SimulationWords.{SimulationWords}
 use Rattle.simulation_text.specs.Texts.{text_of}
 use Rattle.simulation_command.specs.declared.fault.CommandFault.{CommandFault}
 use Rattle.simulation_command.specs.declared.fault.CommandFault.TheVariants.{Usage, TooManyCells, OutOfMemory, OutFault}

@@ -4,7 +4,7 @@ use Rattle.command_words.specs.declared.fault.WordsFault.{WordsFault}
 use Rattle.command_words.specs.declared.fault.WordsFault.TheVariants as words
 use Rattle.simulated_runs.specs.declared.fault.SimulationFault.{SimulationFault}
 use Rattle.simulated_runs.specs.declared.fault.SimulationFault.TheVariants as run
-use Rattle.simulation_words.specs.declared.reading.SimulationWords.{SimulationWords}
+use Rattle.simulation_words.specs.declared.reader.SimulationWords.{SimulationWords}
 use Rattle.simulation_command.specs.declared.fault.CommandFault.{CommandFault}
 use Rattle.simulation_command.specs.declared.fault.CommandFault.TheVariants.{Usage, TooManyCells, OutOfMemory, OutFault}
 use Rattle.simulation_command.specs.Endings.{IsTooLarge}

@@ -3,7 +3,7 @@ use Rattle.std.specs.Prelude.{◌≡◌, ◌<◌, ◌≤◌, ◌⊎◌, ℕ, Non
 use Rattle.arrival_queues.specs.declared.limits.TheConstants.{MAX_CELLS}
 use Rattle.outside.specs.Faults.{ToOut, NeverFall, NoneRose, Rose}
 use Rattle.simulated_slots.specs.Jobs.{places_of}
-use Rattle.simulation_words.specs.declared.reading.SimulationWords.{SimulationWords}
+use Rattle.simulation_words.specs.declared.reader.SimulationWords.{SimulationWords}
 use Rattle.simulation_command.specs.declared.fault.CommandFault.{CommandFault}
 use Rattle.simulation_command.specs.Endings.{Command, IsDone, IsStopped, status_of}
 

@@ -16,7 +16,7 @@ use Rattle.command_words.specs.Numbers.{number_within}
 use Rattle.command_words.specs.Parts.{PartsValue, has_flag, text_of}
 use Rattle.command_words.specs.Reading.{NamesOfOptions, parts_of}
 use Rattle.simulation_words.specs.declared.defaults.TheConstants.{DEFAULT_BATCHES, DEFAULT_BURST, DEFAULT_DEPTH, DEFAULT_LOAD, DEFAULT_ROUNDS}
-use Rattle.simulation_words.specs.declared.reading.SimulationWords.{SimulationWords}
+use Rattle.simulation_words.specs.declared.reader.SimulationWords.{SimulationWords}
 
 -- the steps of a `do` block: it gives nothing where one of them does
 infixl 10 ◌>>=◌

@@ -17,9 +17,9 @@
 #![tactic(auto)]
 
 mod defaults;
-mod reading;
+mod reader;
 
 pub use defaults::{
     DEFAULT_BATCHES, DEFAULT_BURST, DEFAULT_DEPTH, DEFAULT_LOAD, DEFAULT_ROUNDS, defaults_are,
 };
-pub use reading::{SimulationWords, read_words};
+pub use reader::{SimulationWords, read_words};

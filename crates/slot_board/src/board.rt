@@ -7,7 +7,7 @@ ghost use Rattle.slot_board.specs.Columns.{IsBoard};
 ghost use Rattle.slot_board.specs.Calls.{AfterPost, AfterTaking, AfterRefusal};
 
 use crate::acts::{KeptState, PostAct, TakeAct};
-use crate::making::card_seats;
+use crate::new_seats::card_seats;
 use crate::seat::{CardSeat, Seats};
 use crate::waits::TakeWait;
 use board_state::{BoardState, MAX_SLOTS, MAX_SLOTS_WIDE};

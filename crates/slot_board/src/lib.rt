@@ -8,10 +8,10 @@
 
 mod acts;
 mod board;
-mod closing;
+mod close;
 mod journal;
 pub mod laws;
-mod making;
+mod new_seats;
 mod seat;
 mod state;
 mod waits;

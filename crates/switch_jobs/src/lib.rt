@@ -2,17 +2,17 @@
 #![tactic(auto)]
 
 mod captures;
-mod driving;
 mod ending;
+mod groups;
 pub mod jobs;
 mod meters;
 mod ready;
-mod running;
-mod sharing;
+mod runs;
 mod summaries;
+mod workers;
 
 pub use captures::{into_capture, output_bytes};
 pub use meters::longest_of;
 pub use ready::{Ready, Terms};
-pub use running::{run_job, run_ready, run_ready_with};
+pub use runs::{run_job, run_ready, run_ready_with};
 pub use summaries::sum_up;

@@ -14,6 +14,7 @@ ghost use Rattle.switch_plan.specs.PortSteps.{AreBroughtBy};
 ghost use Rattle.switch_plan.specs.JobSteps.{packets_of_ports, AreFit, IsPlanWith, IsJobPlan};
 ghost use Rattle.switch_plan.specs.GoodPlans.{switch_plan_of, IsGood, IsBurst, IsWithin, IsPlanOf};
 
+use crate::capture_files::read_captures;
 use crate::fault::PlanFault;
 use crate::limits::Limits;
 use crate::links::common_link;
@@ -22,7 +23,6 @@ use crate::plan::Plan;
 use crate::port_limits::are_within;
 use crate::port_plans::{PortPlan, port_plans};
 use crate::port_rooms::Brought;
-use crate::reading::read_captures;
 use crate::totals::{greatest_slots, total_aside, total_oversize, total_work};
 use crate::traffic::{is_nano, pace_of};
 use forward_table::{Table, TableFault, read_table};

@@ -3,7 +3,7 @@
 #![tactic(auto)]
 
 mod by_port;
-mod checking;
+mod capture_files;
 mod fault;
 pub mod jobs;
 pub mod laws;
@@ -14,10 +14,10 @@ mod made_capture;
 mod made_table;
 mod output_rooms;
 mod plan;
+mod plan_checks;
 mod port_limits;
 mod port_plans;
 mod port_rooms;
-mod reading;
 mod totals;
 mod traffic;
 

@@ -20,13 +20,13 @@ use Rattle.switch_plan.specs.ReadingSteps.{bytes_of_files}
 use Rattle.run_laws.specs.Runs.{journal_under, ports_of}
 use Rattle.run_laws.specs.Outcomes.{messages_under, summary_under}
 use Rattle.descriptor_runs.specs.declared.outputs.Captures.TheVariants.{Kept}
-use Rattle.descriptor_runs.specs.declared.running.RunOutcome.{RunOutcome}
+use Rattle.descriptor_runs.specs.declared.runs.RunOutcome.{RunOutcome}
 use Rattle.descriptor_runs.specs.Outcomes.{IsRunOutcome}
 use Rattle.packet_times.specs.declared.limits.TheConstants.{MAX_PACKETS_BYTES}
 use Rattle.run_notes.specs.declared.wanted.Wanted.{Wanted}
 use Rattle.run_notes.specs.NotingSteps.{told_by}
 use Rattle.run_notes.specs.Told.{Told, told_under}
-use Rattle.switch_run.specs.declared.making.EndedRun.{EndedRun}
+use Rattle.switch_run.specs.declared.runs.EndedRun.{EndedRun}
 use Rattle.switch_run.specs.MakingSteps.{AreMade, AreNumbersOf, IsRan, ToWrite}
 use Rattle.outside.specs.WholeFiles.{NamedBytes}
 use Rattle.job_files.specs.FileSteps.{files_before}

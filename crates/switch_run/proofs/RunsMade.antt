@@ -10,13 +10,13 @@ use Rattle.switch_plan.specs.Refusals.{limits_for, long_limits, terms_of}
 use Rattle.run_laws.specs.Ends.{IsLengthUnder}
 use Rattle.run_laws.specs.Runs.{ports_of}
 use Rattle.descriptor_runs.specs.declared.outputs.Captures.TheVariants.{Kept}
-use Rattle.descriptor_runs.specs.declared.running.RunOutcome.{RunOutcome}
+use Rattle.descriptor_runs.specs.declared.runs.RunOutcome.{RunOutcome}
 use Rattle.descriptor_runs.specs.Outcomes.{IsRunOutcome, line_under}
 use Rattle.run_notes.specs.declared.wanted.Wanted.{Wanted}
 use Rattle.run_notes.specs.declared.texts.NotesFault.{NotesFault}
 use Rattle.run_notes.specs.declared.texts.NotesFault.TheVariants as fault
 use Rattle.run_notes.specs.NotingSteps.{StopsTold}
-use Rattle.switch_run.specs.declared.making.EndedRun.{EndedRun}
+use Rattle.switch_run.specs.declared.runs.EndedRun.{EndedRun}
 use Rattle.switch_run.specs.MakingSteps.{IsRan, IsRanOf, StopsPlan, StopsRun, StopsTexts, ending_of}
 use Rattle.switch_run.specs.Switched.{IsPlanned}
 use Rattle.job_files.specs.declared.ending.Ending.{Ending}

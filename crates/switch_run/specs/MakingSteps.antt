@@ -32,8 +32,8 @@ use Rattle.job_files.specs.FileSteps.{all_shown}
 use Rattle.job_files.specs.OutputFiles.{Texts, files_of, packets_place}
 use Rattle.job_files.specs.Statuses.{refused_by}
 use Rattle.job_files.specs.declared.output_files.JobTexts.{JobTexts}
-use Rattle.switch_run.specs.declared.making.NotedRun.{NotedRun}
-use Rattle.switch_run.specs.declared.making.EndedRun.{EndedRun}
+use Rattle.switch_run.specs.declared.runs.NotedRun.{NotedRun}
+use Rattle.switch_run.specs.declared.runs.EndedRun.{EndedRun}
 use Rattle.switch_run.specs.declared.packets.PacketPieces.{PacketPieces}
 use Rattle.switch_run.specs.Switched.{IsPlanned, IsJobOutcome, IsLongJournal, IsLongPackets}
 use Rattle.switch_run.specs.Endings.{IsDone, Stops, captures_made}

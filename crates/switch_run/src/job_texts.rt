@@ -8,8 +8,8 @@ ghost use Rattle.switch_run.specs.Endings.{Stops, is_own};
 ghost use Rattle.switch_run.specs.MakingSteps.{AreToWrite, IsEndOf, to_write};
 ghost use Rattle.switch_run.specs.Switched.{wanted_by};
 
-use crate::making::{RunWay, plan_and_run, summary_of_job};
 use crate::packets::PacketPieces;
+use crate::runs::{RunWay, plan_and_run, summary_of_job};
 use crate::texts::{run_texts, summary_alone};
 use card_worker::Gate;
 use job_files::{

@@ -5,8 +5,8 @@ mod captures;
 mod command;
 mod job_texts;
 pub mod laws;
-mod making;
 mod packets;
+mod runs;
 mod texts;
 
 pub use command::switch_main;

@@ -7,8 +7,8 @@ ghost use Rattle.switch_words.specs.Reading.{run, run_words};
 ghost use Rattle.switch_run.specs.MakingSteps.{AreMade, IsRan, to_write};
 ghost use Rattle.switch_run.specs.Switched.{wanted_by};
 
-use crate::making::EndedRun;
 use crate::packets::{PacketPieces, pieces_of};
+use crate::runs::EndedRun;
 use descriptor_runs::RunOutcome;
 use job_files::{JobTexts, packets_file, run_files};
 use rotating_pick::{MAX_PORTS, OutOfMemory};

@@ -27,9 +27,9 @@ mod job;
 mod limits;
 mod numbers;
 mod options;
-mod reading;
+mod reader;
 
 pub use fault::WordsFault;
 pub use job::{CheckJob, FirmJob, GenJob, Job, RunJob, Settings, Speed};
 pub use limits::{LONG_DEPTH, MAX_COUNT, MAX_SEED, MAX_WORKERS, limits_are};
-pub use reading::read_words;
+pub use reader::read_words;

@@ -3,17 +3,17 @@
 //! what is wrong is counted and named.
 #![tactic(auto)]
 
-mod checking;
+mod checks;
+mod escapes;
 mod fields;
-mod reading;
 mod row;
+mod row_reader;
 mod table_text;
 #[cfg(test)]
 mod tests;
-mod unescaping;
 
-pub use checking::{check_named_files, check_text};
+pub use checks::{check_named_files, check_text};
 pub use fields::{address, byte, number, port_count, port_set, words};
-pub use reading::{RowReader, is_comment, rows_of};
 pub use row::{NoAnswer, Row, set_up_row, wrong_count};
+pub use row_reader::{RowReader, is_comment, rows_of};
 pub use table_text::TableText;

@@ -1,7 +1,7 @@
 //! Texts of tables, as the lines of a block set them up.
+use crate::escapes::unescaped;
 use crate::fields::number;
 use crate::row::NoAnswer;
-use crate::unescaping::unescaped;
 use std::alloc::Global;
 
 /// The text of a table and the ports of its switch.

@@ -6,10 +6,10 @@
 //! seat had seen.
 #![tactic(auto)]
 
-mod closing;
+mod close;
+mod creation;
 mod history;
 mod kept;
-mod making;
 mod rule;
 mod seat;
 mod steps;

@@ -1,5 +1,0 @@
-use Rattle.cell_cutter.proofs.Forms.{cells_join}
-use Rattle.cell_cutter.proofs.joining.cells_join.Goals as goal
-
-pub returns : goal.returns
-returns c = cells_join

@@ -1,4 +1,0 @@
-use Rattle.journal_check.proofs.writing.add_flags.Goals as goal
-
-pub returns-clause-long : goal.returns-clause-long
-returns-clause-long c = c.told-sets

@@ -1,6 +1,0 @@
-use Rattle.std.proofs.Common.{arith}
-use Rattle.output_queued.proofs.entering.add_cells.Goals as goal
-
-pub without-left-requires : goal.without-left-requires
-without-left-requires c = let inside = c.requires.fan c.in-Some.output (c.loop-output.invariant.inside c.in-Some.output c.in-Some.ensures.member) in
-    let size = c.requires.size in omega arith

@@ -1,4 +1,0 @@
-use Rattle.switch_jobs.proofs.driving.drive_one.Goals as goal
-
-pub returns : goal.returns
-returns g c = record { made = c.drive.result; passes = c.drive.ensures.passes }
