@@ -112,7 +112,7 @@ uint32_t tiny_tera_decide(
     struct tiny_tera_feed *feeds, size_t feeds_len,
     struct tiny_tera_rounds *used);
 
-/* The same by a second scheduler, in the manner of FIRM: an output whose unicast grant was refused in the first round
+/* The same by FIRM: an output whose unicast grant was refused in the first round
  * points its grant pointer to the input that refused it. */
 uint32_t tiny_tera_decide_firm(
     uint32_t n,

@@ -1,4 +1,4 @@
--- A slot of the first scheduler, of which the refused outputs are then held, is a slot of the second.
+-- A slot of iSLIP, of which the refused outputs are then held, is a slot of FIRM.
 use Rattle.std.proofs.Common.{◌≡◌, ℕ, ◌∙◌, List, Option, sym, subst}
 use Rattle.slot_match.specs.declared.rows.Row.{Row}
 use Rattle.slot_match.specs.declared.matching.Fed.{Fed}

@@ -1,5 +1,4 @@
--- Pointers that the first scheduler has moved, of which the refused ones are then held, are moved as by the second
--- scheduler.
+-- Pointers that iSLIP has moved, of which the refused ones are then held, are moved as by FIRM.
 use Rattle.std.proofs.Common.{◌≡◌, ℕ, ◌∙◌, List, Option}
 use Rattle.slot_match.specs.declared.rows.Row.{Row}
 use Rattle.slot_match.specs.declared.matching.Fed.{Fed}

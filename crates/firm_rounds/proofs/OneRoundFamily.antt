@@ -1,5 +1,4 @@
--- A family of windows of one round, for every number of ports, in which a request is served as late as can be under the
--- second scheduler.
+-- A family of windows of one round, for every number of ports, in which a request is served as late as can be under FIRM.
 --
 -- Output 0 and all inputs point at port 1. "Input x goes down": slot by slot it posts output 0 and the output that it
 -- points at, 1, 2, .., n - 1, and takes the latter. Input 0 posts output 0 in every slot. Each other input in turn goes

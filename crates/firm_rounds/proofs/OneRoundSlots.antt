@@ -1,4 +1,4 @@
--- A slot of one round under the second scheduler, in which one input asks output 0 and one output beside it, and input 0
+-- A slot of one round under FIRM, in which one input asks output 0 and one output beside it, and input 0
 -- asks output 0: what it serves, and how pointers move.
 use Rattle.std.proofs.Common.{◌≡◌, ℕ, ◌+◌, ◌%◌, ◌<◌, ◌⊎◌, ◌∙◌, List, Option, refl, sym, subst, inl, inr, arith}
 use Rattle.rotating_pick.specs.declared.kinds.Kind.{Kind}

@@ -1,4 +1,4 @@
--- Decisions of the second scheduler, as a function of rows and pointers.
+-- Decisions of FIRM, as a function of rows and pointers.
 use Rattle.std.specs.Prelude.{ℕ, List, Option, unwrap_or, find}
 use Rattle.slot_match.specs.declared.rows.Row.{Row}
 use Rattle.slot_match.specs.declared.matching.Fed.{Fed}

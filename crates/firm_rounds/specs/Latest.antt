@@ -1,4 +1,4 @@
--- Latest: windows under the second scheduler in which a request is served as late as can be.
+-- Latest: windows under FIRM in which a request is served as late as can be.
 use Rattle.std.specs.Prelude.{◌≡◌, ℕ, List, All}
 use Rattle.rotating_pick.specs.declared.kinds.Kind.TheVariants.{Uni}
 use Rattle.slot_match.specs.Rows.{Names, row_of}

@@ -1,4 +1,4 @@
--- A step of the slot's code: outputs that were refused, after the first scheduler has moved its pointers.
+-- A step of the slot's code: outputs that were refused, after iSLIP has moved its pointers.
 use Rattle.std.specs.Prelude.{◌≡◌, ℕ, List, Option}
 use Rattle.slot_match.specs.declared.rows.Row.{Row}
 use Rattle.slot_match.specs.declared.matching.Fed.{Fed}
@@ -13,7 +13,7 @@ pub record AreHeld (Refused : ℕ → ℕ → ℕ → Type 0) (before after : Pl
   pub accepts : (i level : ℕ) → accept_of after i level ≡ accept_of before i level
   pub shared : (level : ℕ) → shared_of after level ≡ shared_of before level
 
--- the pointers are moved as those of the first scheduler are, and then each output whose unicast grant of the first round
+-- the pointers are moved as those of iSLIP are, and then each output whose unicast grant of the first round
 -- was refused points to that input
 pub record AreMovedThenHeld (n t : ℕ) (rows : List Row) (first_match matched : List (Option Fed)) (before after : Places) : Type 0 where
   pub moved : Places

@@ -1,4 +1,4 @@
--- One slot under the second scheduler, in the manner of FIRM: a slot as the first scheduler makes it, but for where the
+-- One slot under FIRM: a slot as iSLIP makes it, but for where the
 -- grant pointers of refused grants go.
 use Rattle.std.specs.Prelude.{◌≡◌, ℕ, ◌+◌, ◌%◌, List, Option}
 use Rattle.rotating_pick.specs.Rotation.{IsFirstFrom}
@@ -12,7 +12,7 @@ use Rattle.eslip_rounds.specs.Slots.{Decision, IsSlotBy, IsRefused}
 
 -- The pointers after a slot, of which `first_match` is the match after the first round. A unicast grant of the first
 -- round moves the output's grant pointer: one beyond the input where it was accepted, to the input where it was refused.
--- All else is as in the first scheduler: the unicast pairs of the first round move the inputs' accept pointers one beyond
+-- All else is as in iSLIP: the unicast pairs of the first round move the inputs' accept pointers one beyond
 -- the outputs, and the shared pointer of a level moves one beyond the first input from it on that posted a multicast
 -- head, where that head completes. All other pointers stay.
 pub record AreMovedByFirm (n t : ℕ) (rows : List Row) (first_match matched : List (Option Fed)) (before after : Places) : Type 0 where

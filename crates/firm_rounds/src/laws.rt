@@ -1,4 +1,4 @@
-//! Laws of the second scheduler, as the contracts of functions that do nothing. They hold of its
+//! Laws of FIRM, as the contracts of functions that do nothing. They hold of its
 //! definitions, in every window of slots; each law says for which numbers of ports and rounds.
 
 ghost use Rattle.std.specs.Prelude.{◌≡◌, ℕ, ◌+◌, ◌*◌, ◌%◌, ◌<◌, ◌≤◌, List, Option, All, Any, length, map, take, drop};

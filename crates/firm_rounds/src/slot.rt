@@ -11,8 +11,8 @@ use pointer_state::Pointers;
 use rotating_pick::{lowest, without};
 use slot_match::{Match, Row};
 
-/// Decides slot number `slot` of a switch of `n` ports in `rounds` rounds, each from 1 to 64, under the
-/// second scheduler: sets `out` to the match, moves the pointers and answers how the rounds were used.
+/// Decides slot number `slot` of a switch of `n` ports in `rounds` rounds, each from 1 to 64, under
+/// FIRM: sets `out` to the match, moves the pointers and answers how the rounds were used.
 /// There are `n` rows within `n`, and `p` and `out` are for `n` ports. Takes no memory.
 pub fn decide_firm(
     n: u32,

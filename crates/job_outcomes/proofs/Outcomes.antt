@@ -6,7 +6,7 @@ use Rattle.eslip_rounds.specs.Schedulers.{Scheduler}
 use Rattle.firm_rounds.specs.Decisions.{firm_decision}
 use Rattle.named_schedulers.specs.Named.{decision_named}
 use Rattle.named_schedulers.proofs.Schedulers.{IsScheduler-named}
-use Rattle.named_schedulers.proofs.SecondScheduler.{IsScheduler-firm_decision}
+use Rattle.named_schedulers.proofs.FirmScheduler.{IsScheduler-firm_decision}
 use Rattle.switch_words.specs.declared.job.GenJob.{GenJob}
 use Rattle.switch_words.specs.Reading.{JobWords, run, gen, check, firm, RunWords, FirmWords}
 use Rattle.switch_plan.specs.GoodPlans.{SwitchPlan}

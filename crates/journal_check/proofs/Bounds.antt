@@ -21,7 +21,7 @@ use Rattle.rrm_rounds.specs.Slots.{AreMovedByRrm}
 use Rattle.rrm_rounds.specs.Decisions.{rrm_decision}
 use Rattle.rrm_rounds.proofs.PointersKept.{rrm_keep, rrm_pass}
 use Rattle.rrm_rounds.proofs.Scheduling.{IsSchedulerBy-rrm_decision, IsScheduler-rrm_decision}
-use Rattle.named_schedulers.proofs.SecondScheduler.{IsSchedulerBy-firm_decision, IsScheduler-firm_decision}
+use Rattle.named_schedulers.proofs.FirmScheduler.{IsSchedulerBy-firm_decision, IsScheduler-firm_decision}
 use Rattle.journal_check.specs.Files.{JournalFile}
 use Rattle.journal_check.specs.Texts.{IsFile}
 use Rattle.journal_check.specs.Lawful.{decided_slots_under, IsLawfulUnder}

@@ -2,7 +2,7 @@
 //! `pointers GRANT ACCEPT..`, the grant pointer of output 0 and the accept pointer of each input, and for
 //! one slot after the other `rows SET..`, the outputs that each input posts at level 0.
 //!
-//! A case states how many slots the longest service takes, or the longest at line rate; under the second scheduler it
+//! A case states how many slots the longest service takes, or the longest at line rate; under FIRM it
 //! states some slots that are no more than that. A slot states that no queue has waited longer than since slot 0, which input 0 has
 //! for output 0, and that it is served in the last slot alone.
 ghost use Rattle.std.specs.Prelude.{◌≡◌, ◌<◌, ◌≤◌, length};

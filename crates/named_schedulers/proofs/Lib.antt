@@ -1,2 +1,2 @@
-pub mod SecondScheduler
+pub mod FirmScheduler
 pub mod Schedulers

@@ -4,7 +4,7 @@ use Rattle.scheduler_names.specs.declared.names.SchedulerName.TheVariants.{Islip
 use Rattle.eslip_rounds.specs.Schedulers.{IsScheduler}
 use Rattle.eslip_rounds.proofs.Scheduling.{IsScheduler-decision_of}
 use Rattle.rrm_rounds.proofs.Scheduling.{IsScheduler-rrm_decision}
-use Rattle.named_schedulers.proofs.SecondScheduler.{IsScheduler-firm_decision}
+use Rattle.named_schedulers.proofs.FirmScheduler.{IsScheduler-firm_decision}
 use Rattle.named_schedulers.specs.Named.{decision_named}
 
 pub IsScheduler-named : (name : SchedulerName) → IsScheduler (decision_named name)

@@ -1,4 +1,4 @@
--- A slot of the first scheduler, of which the refused outputs are then passed, is a slot of round-robin matching.
+-- A slot of iSLIP, of which the refused outputs are then passed, is a slot of round-robin matching.
 use Rattle.std.proofs.Common.{ℕ, List, Option}
 use Rattle.slot_match.specs.declared.rows.Row.{Row}
 use Rattle.slot_match.specs.declared.matching.Fed.{Fed}

@@ -1,4 +1,4 @@
--- Pointers that the first scheduler has moved, of which the refused ones then pass their inputs, are moved as by
+-- Pointers that iSLIP has moved, of which the refused ones then pass their inputs, are moved as by
 -- round-robin matching.
 use Rattle.std.proofs.Common.{◌≡◌, ℕ, ◌∙◌, List, Option, inl, inr}
 use Rattle.rotating_pick.specs.declared.kinds.Kind.TheVariants.{Uni}

@@ -1,4 +1,4 @@
--- A step of the slot's code: outputs that were refused, after the first scheduler has moved its pointers.
+-- A step of the slot's code: outputs that were refused, after iSLIP has moved its pointers.
 use Rattle.std.specs.Prelude.{◌≡◌, ℕ, ◌+◌, ◌%◌}
 use Rattle.pointer_state.specs.Places.{Places, grant_of, accept_of, shared_of}
 

@@ -1,4 +1,4 @@
--- One slot under round-robin matching: a slot as the first scheduler makes it, but for where grants move grant pointers.
+-- One slot under round-robin matching: a slot as iSLIP makes it, but for where grants move grant pointers.
 use Rattle.std.specs.Prelude.{◌≡◌, ℕ, ◌+◌, ◌%◌, List, Option}
 use Rattle.rotating_pick.specs.Rotation.{IsFirstFrom}
 use Rattle.rotating_pick.specs.declared.kinds.Kind.TheVariants.{Uni}
@@ -15,7 +15,7 @@ abbrev pub IsGrantedFirst : ℕ → ℕ → List Row → Places → ℕ → ℕ 
 IsGrantedFirst n t rows places i j level = Grants n t rows places (unmatched n) i j level Uni
 
 -- The pointers after a slot, of which `first_match` is the match after the first round. Each unicast grant of the first
--- round moves the output's grant pointer one beyond the input, accepted or not. All else is as in the first scheduler:
+-- round moves the output's grant pointer one beyond the input, accepted or not. All else is as in iSLIP:
 -- the unicast pairs of the first round move the inputs' accept pointers one beyond the outputs, and the shared pointer of
 -- a level moves one beyond the first input from it on that posted a multicast head, where that head completes. All other
 -- pointers stay.

@@ -1,4 +1,4 @@
-//! Slots under a third scheduler, round-robin matching, and that it can starve a queue.
+//! Slots under round-robin matching, and that it can starve a queue.
 //!
 //! It is where iSLIP starts (N. McKeown, "The iSLIP Scheduling Algorithm for Input-Queued Switches", IEEE/ACM
 //! Transactions on Networking 7(2), 1999). A slot is that of `eslip_rounds` but for one rule: a unicast grant of the

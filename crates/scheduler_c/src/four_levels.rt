@@ -51,7 +51,7 @@ pub extern "C" fn tiny_tera_decide(
     )
 }
 
-/// The same under the second scheduler, in the manner of FIRM, whose refused outputs point to the input that
+/// The same under FIRM, whose refused outputs point to the input that
 /// refused them.
 #[unsafe(no_mangle)]
 pub extern "C" fn tiny_tera_decide_firm(

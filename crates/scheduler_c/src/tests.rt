@@ -81,8 +81,8 @@ fn full_load_of_three(rt: HostRuntime) {
     }
 }
 
-// Output 0 grants input 1, which takes output 1. Output 0 then points where it did under iSLIP, to input 1 under the
-// second scheduler, and one beyond it under round-robin matching.
+// Output 0 grants input 1, which takes output 1. Output 0 then points where it did under iSLIP, to input 1 under
+// FIRM, and one beyond it under round-robin matching.
 #[test]
 fn refused_grant_moves_by_the_scheduler(rt: HostRuntime) {
     let rows = [unicast(0), unicast(0b011), unicast(0b001)];

@@ -1,5 +1,5 @@
 -- A family of schedules of one round at line rate, for two ports or more, in which a request is served as late as can be
--- under the second scheduler: each other input in turn goes down, and input 0 at last. In the slot in which an input takes
+-- under FIRM: each other input in turn goes down, and input 0 at last. In the slot in which an input takes
 -- output 0 the input whose turn is next begins to ask output 0.
 use Rattle.std.proofs.Common.{◌≡◌, ℕ, zero, suc, ◌+◌, ◌-◌, ◌*◌, ◌%◌, ◌<◌, ◌≤◌, ◌∙◌, List, [], ◌∷◌, length, drop, refl, ap, sym, subst, inl, inr, arith}
 use Rattle.std.proofs.Math.Nat.{mod-eq_of_lt}

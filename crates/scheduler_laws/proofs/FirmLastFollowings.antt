@@ -1,4 +1,4 @@
--- Followings of more rounds under the second scheduler, while the last input goes down: which plans of its family follow on
+-- Followings of more rounds under FIRM, while the last input goes down: which plans of its family follow on
 -- which, where requests stay, and at most one cell comes to each input.
 use Rattle.std.proofs.Common.{◌≡◌, ℕ, ◌+◌, ◌<◌, [], ◌∷◌, refl, sym, inl, inr, arith}
 use Rattle.scheduler_laws.proofs.Plans.{pair, In, Each, asked}

@@ -1,5 +1,5 @@
--- A family of schedules of two rounds or more at line rate, in which a request is served as late as can be under the second
--- scheduler: the turns of the inputs but the last. As with one round inputs x = 1, 2, .. go down one after the other. But of
+-- A family of schedules of two rounds or more at line rate, in which a request is served as late as can be under
+-- FIRM: the turns of the inputs but the last. As with one round inputs x = 1, 2, .. go down one after the other. But of
 -- the others input x + 1 alone asks output 0 too, and output 0, which x refuses, serves it in the second round.
 use Rattle.std.proofs.Common.{◌≡◌, ℕ, zero, suc, ◌+◌, ◌-◌, ◌*◌, ◌%◌, ◌<◌, ◌≤◌, ◌∙◌, List, ◌∷◌, length, refl, ap, subst, inl, inr, arith}
 use Rattle.std.proofs.Math.Nat.{mod-eq_of_lt}

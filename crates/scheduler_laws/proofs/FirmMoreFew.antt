@@ -1,4 +1,4 @@
--- The rest of the family of more rounds under the second scheduler, for few ports: while the last input goes down, input 0
+-- The rest of the family of more rounds under FIRM, for few ports: while the last input goes down, input 0
 -- is matched in the first round of each slot, takes output 1 in the last of them and so points at output 2 at the end.
 use Rattle.std.proofs.Common.{◌≡◌, ℕ, zero, suc, ◌+◌, ◌-◌, ◌*◌, ◌%◌, ◌<◌, ◌≤◌, ◌∙◌, List, [], ◌∷◌, length, drop, refl, ap, sym, subst, inl, inr, arith}
 use Rattle.std.proofs.Math.Nat.{mod-eq_of_lt}

@@ -1,4 +1,4 @@
--- Followings of more rounds under the second scheduler, before the last input goes down, and all those of few ports: which
+-- Followings of more rounds under FIRM, before the last input goes down, and all those of few ports: which
 -- plans of its family follow on which, where requests stay, and at most one cell comes to each input.
 use Rattle.std.proofs.Common.{◌≡◌, ℕ, ◌+◌, ◌<◌, [], ◌∷◌, refl, sym, inl, inr, arith}
 use Rattle.scheduler_laws.proofs.Plans.{pair, Each}

@@ -1,4 +1,4 @@
--- The rest of the family of more rounds under the second scheduler, for five ports or more: the last input goes down while
+-- The rest of the family of more rounds under FIRM, for five ports or more: the last input goes down while
 -- input 0 is matched in the second round of each slot, so that no pointer of it moves.
 --
 -- Input l = n - 1 is the last, and m = n - 3. When input l - 1 takes output 0, output l takes input 1, and then points at

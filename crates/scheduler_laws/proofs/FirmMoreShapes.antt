@@ -1,4 +1,4 @@
--- Shapes of more rounds under the second scheduler: the plans that its family is made of, and the pointers that suit them.
+-- Shapes of more rounds under FIRM: the plans that its family is made of, and the pointers that suit them.
 use Rattle.std.proofs.Common.{◌≡◌, ℕ, ◌+◌, ◌<◌, ◌≤◌, ◌∙◌, [], ◌∷◌, refl, ap, sym, subst, inl, inr, arith}
 use Rattle.std.proofs.lemmas.Bool.{cases_lt}
 use Rattle.rotating_pick.specs.Rotation.{distance}

@@ -1,4 +1,4 @@
--- What a slot of a plan decides in some rounds under the second scheduler, and the runs of such slots.
+-- What a slot of a plan decides in some rounds under FIRM, and the runs of such slots.
 use Rattle.std.proofs.Common.{◌≡◌, ℕ, ◌+◌, ◌%◌, ◌<◌, ◌⊎◌, ◌∙◌, List, [], ◌∷◌, Option, length, drop, refl, ap, sym, subst, inl, inr, arith}
 use Rattle.rotating_pick.specs.declared.kinds.Kind.{Kind}
 use Rattle.rotating_pick.specs.declared.kinds.Kind.TheVariants.{Uni}

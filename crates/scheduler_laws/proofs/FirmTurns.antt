@@ -1,4 +1,4 @@
--- Turns of inputs under the second scheduler, whatever the number of rounds: the slot between two turns, the turn of input 0
+-- Turns of inputs under FIRM, whatever the number of rounds: the slot between two turns, the turn of input 0
 -- at the end, and the opening.
 --
 -- At first each input in turn takes output 0, and input 0 once more, so that output 0 and all inputs point at port 1. Input 0

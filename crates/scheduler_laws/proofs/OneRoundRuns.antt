@@ -1,4 +1,4 @@
--- Runs of one round under the first scheduler.
+-- Runs of one round under iSLIP.
 use Rattle.std.proofs.Common.{◌≡◌, ℕ, ◌+◌, ◌<◌, ◌∙◌, List, [], ◌∷◌, length, drop, ap, sym, subst, inl, refl, arith}
 use Rattle.slot_match.specs.Rows.{Names, row_of, AreWithin}
 use Rattle.rotating_pick.specs.declared.kinds.Kind.TheVariants.{Uni}

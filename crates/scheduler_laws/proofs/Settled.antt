@@ -82,7 +82,7 @@ settles_readies_too l w = (
   ),
 )
 
--- ---- under the second scheduler
+-- ---- under FIRM
 -- input x takes output f, and the next input output 0
 pub settles_joining : (x f : ℕ) → Each (IsSettled (joining x f)) (asked (joining x f))
 settles_joining x f = (

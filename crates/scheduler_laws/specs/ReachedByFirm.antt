@@ -1,4 +1,4 @@
--- ReachedByFirm: schedules at line rate under the second scheduler in which a request is served as late as can be.
+-- ReachedByFirm: schedules at line rate under FIRM in which a request is served as late as can be.
 use Rattle.std.specs.Prelude.{ℕ, List, All, take, drop}
 use Rattle.slot_match.specs.Rows.{AreWithin}
 use Rattle.pointer_state.specs.Places.{places_at_first}
@@ -8,7 +8,7 @@ use Rattle.firm_rounds.specs.Slots.{AreMovedByFirm}
 use Rattle.firm_rounds.specs.Latest.{IsServedLastByFirm}
 use Rattle.scheduler_laws.specs.Reached.{AskAtMostOne}
 
--- A schedule of a switch of n ports at line rate under the second scheduler, from slot 0, all pointers at port 0 and no
+-- A schedule of a switch of n ports at line rate under FIRM, from slot 0, all pointers at port 0 and no
 -- requests on.
 pub record ComesLastByFirmAtLineRate (n rounds first : ℕ) (slots : List DecidedSlot) : Type 0 where
   -- each slot is decided from the pointers that the one before left

@@ -16,8 +16,8 @@ pub fn growing_traffic_has_its_load()
 {}
 
 /// Under it a queue of iSLIP grows for ever, for 2 to 64 ports and any number of rounds: from any pointers at ports, as
-/// from all at port 0, each period leaves one cell more in queue (0, 0). So it does under the second scheduler, in the manner
-/// of FIRM, and under round-robin matching.
+/// from all at port 0, each period leaves one cell more in queue (0, 0). So it does under FIRM
+/// and under round-robin matching.
 pub fn a_queue_grows_for_ever()
     ensures by_islip { (n m rounds : ℕ) (places : Places) → 2 ≤ n → 0 < m → 0 < rounds → AreAtPorts places → places.ports ≡ n
         → GrowsForEver AreMoved n m rounds places }

@@ -25,7 +25,7 @@ pub fn more_rounds_are_reached_by_cells()
         × (length (drop (n + 1) slots) + 1 ≡ longest_service n) }
 {}
 
-/// Under the second scheduler, in the manner of FIRM, line rate costs nothing where each slot has one round: for two ports
+/// Under FIRM, line rate costs nothing where each slot has one round: for two ports
 /// or more such slots are `n * n`.
 pub fn firm_is_reached_by_cells()
     ensures { (n : ℕ) → 1 < n → n ≤ MAX_PORTS

@@ -12,7 +12,7 @@ use Rattle.rrm_rounds.specs.Decisions.{rrm_decision}
 use Rattle.rrm_rounds.proofs.PointersKept.{rrm_keep, rrm_pass}
 use Rattle.rrm_rounds.proofs.Scheduling.{IsSchedulerBy-rrm_decision, IsScheduler-rrm_decision}
 use Rattle.named_schedulers.specs.Named.{decision_named}
-use Rattle.named_schedulers.proofs.SecondScheduler.{IsSchedulerBy-firm_decision, IsScheduler-firm_decision}
+use Rattle.named_schedulers.proofs.FirmScheduler.{IsSchedulerBy-firm_decision, IsScheduler-firm_decision}
 use Rattle.switch_plan.specs.GoodPlans.{SwitchPlan, IsGood}
 use Rattle.run_laws.specs.Runs.{ports_of}
 use Rattle.run_laws.specs.Ends.{IsLengthUnder}

@@ -1,4 +1,4 @@
--- What holds of every run under the second scheduler.
+-- What holds of every run under FIRM.
 use Rattle.std.proofs.Common.{◌≡◌, ◌∙◌, ℕ, ◌+◌, ◌*◌, map, take, drop, length, ap, sym, subst, arith}
 use Rattle.std.specs.List.{range_with_len}
 use Rattle.std.specs.Prelude.{◌<◌, ◌≤◌, slice_index}
@@ -36,7 +36,7 @@ use Rattle.run_laws.proofs.Counted.{counted-once}
 use Rattle.run_laws.specs.Outcomes.{longest_under, summary_under}
 use Rattle.scheduler_runs.specs.FirmRuns.{IsFirmRun, HasShortWaits, FirmPromises}
 use Rattle.scheduler_runs.proofs.Completing.{completes-firm, completes-in_time_under_each}
-use Rattle.named_schedulers.proofs.SecondScheduler.{IsSchedulerBy-firm_decision, IsScheduler-firm_decision}
+use Rattle.named_schedulers.proofs.FirmScheduler.{IsSchedulerBy-firm_decision, IsScheduler-firm_decision}
 
 module _ (plan : SwitchPlan) (good : IsGood plan) (slots : ℕ) where
   -- a unicast queue is served
@@ -100,7 +100,7 @@ short-waits plan summary good run level best =
     ∙ get_or-map-range_with_len (longest_under firm_decision plan summary.slots) 0 LEVELS level level 0 best.level_in (omega arith) in
     subst (λ k. k < ports_of plan * ports_of plan) (sym at) (firm-waits plan good summary.slots level best)
 
--- the numbers of a run under the second scheduler, of so many slots
+-- the numbers of a run under FIRM, of so many slots
 pub firm-run : (plan : SwitchPlan) (slots : ℕ) (summary : Summary) → IsLengthUnder firm_decision plan slots → slots ≤ plan.max_slots
     → summary ≡ summary_under firm_decision plan slots → IsFirmRun plan summary
 unfolding summary_under

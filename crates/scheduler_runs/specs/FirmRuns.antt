@@ -1,4 +1,4 @@
--- The run of a plan under the second scheduler.
+-- The run of a plan under FIRM.
 use Rattle.std.specs.Prelude.{◌≡◌, ℕ, ◌*◌, ◌<◌, ◌≤◌, slice_index}
 use Rattle.firm_rounds.specs.Decisions.{firm_decision}
 use Rattle.slot_report.specs.declared.summary.Summary.{Summary}
@@ -22,7 +22,7 @@ abbrev pub HasShortWaits : SwitchPlan → Summary → Type 0
 HasShortWaits plan summary = (level : ℕ) → IsBestUnder firm_decision plan summary.slots level
     → slice_index summary.longest level < ports_of plan * ports_of plan
 
--- What is promised of a plan's run under the second scheduler that has so many slots: what it delivers, that all packets
+-- What is promised of a plan's run under FIRM that has so many slots: what it delivers, that all packets
 -- arrive before its end and are counted once, within how many slots a unicast queue is served and a multicast head
 -- completes, also in a run of fewer slots, how long waits are, how many slots it has, and that no busy slot is without a match.
 pub record FirmPromises (plan : SwitchPlan) (slots : ℕ) : Type 0 where

@@ -19,7 +19,7 @@ ghost use Rattle.run_laws.specs.InTime.{CompletesInTimeUnder};
 ghost use Rattle.run_laws.specs.Promises.{CompletesUnder};
 ghost use Rattle.scheduler_runs.specs.FirmRuns.{FirmPromises};
 
-/// The slots of the run under the second scheduler are a schedule of it, from slot 0 and all pointers at port 0 on, of rows that
+/// The slots of the run under FIRM are a schedule of it, from slot 0 and all pointers at port 0 on, of rows that
 /// name none but the switch's ports and are kept until they are served.
 pub fn slots_are_a_schedule()
     ensures schedule { (plan : SwitchPlan) (slots : ℕ) → IsGood plan
@@ -52,7 +52,7 @@ pub fn multicast_completes_in_time_under_each()
         → CompletesInTimeUnder (decision_named name) plan slots }
 {}
 
-/// The run under the second scheduler delivers each admitted packet once and in order, and no other. All packets arrive before its end, and each
+/// The run under FIRM delivers each admitted packet once and in order, and no other. All packets arrive before its end, and each
 /// is counted once. While nothing of a better level is posted, a unicast queue that is posted is served within `n * n`
 /// slots, where no multicast of its level is posted, and a multicast head that is posted completes within `2 * n`. Or
 /// before the run's end; and for the queue it is enough that its output is asked for nothing else.

@@ -16,7 +16,7 @@ use Rattle.eslip_rounds.proofs.Scheduling.{IsSchedulerBy-decision_of}
 use Rattle.firm_rounds.specs.Slots.{AreMovedByFirm}
 use Rattle.firm_rounds.proofs.InTime.{firm_longest_wait}
 use Rattle.named_schedulers.specs.Named.{decision_named}
-use Rattle.named_schedulers.proofs.SecondScheduler.{IsSchedulerBy-firm_decision}
+use Rattle.named_schedulers.proofs.FirmScheduler.{IsSchedulerBy-firm_decision}
 use Rattle.service_bound.specs.Waits.{longest_service_at_line_rate, longest_wait, noted_of}
 use Rattle.service_bound.specs.Windows.{AreAtLineRate, GainsAtMostOne, IsClean, IsWindowBy, IsWithoutMulticast}
 use Rattle.service_bound.proofs.LineRateByRounds.{longest_wait-below_at_line_rate}

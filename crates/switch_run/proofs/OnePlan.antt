@@ -211,7 +211,7 @@ switched_once scheduler settings wanted table files a b p q =
     let same = same_run scheduler settings table files p.plan q.plan p.slots q.slots p.run q.run in
     p.are ∙ ap (λ (plan : SwitchPlan). texts_under scheduler wanted plan p.slots) same.0 ∙ ap (texts_under scheduler wanted q.plan) same.1 ∙ sym q.are
 
--- the numbers of a run under the second scheduler are one
+-- the numbers of a run under FIRM are one
 firm_runs_once : (plan : SwitchPlan) (a b : Summary) → IsFirmRun plan a → IsFirmRun plan b → a ≡ b
 firm_runs_once plan a b p q = p.numbers ∙ ap (summary_under firm_decision plan) (lengths_once firm_decision plan a.slots b.slots p.ends q.ends) ∙ sym q.numbers
 

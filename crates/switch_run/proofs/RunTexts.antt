@@ -155,7 +155,7 @@ module _ (g : GenJob) (table : List ℕ) (captures : List (List ℕ)) (numbers :
     summary_is = summary_is ∙ ap (λ (s : Summary). lines_text (summary_lines s)) of.ran.are;
   }
 
--- the summary of a run under the second scheduler
+-- the summary of a run under FIRM
 pub firm_made : (f : FirmWords) (table : List ℕ) (captures : List (List ℕ)) (numbers : Summary) (written : ToWrite)
     → AreNumbersOf (decision_named Firm) f.settings table captures numbers
     → written.files ≡ [] → written.summary ≡ lines_text (summary_lines numbers) → AreMade (firm f) table captures written

@@ -230,7 +230,7 @@ pub record RunPromises (name : SchedulerName) (plan : SwitchPlan) (slots : ℕ) 
   pub rows : RowsAddUp (decision_named name) plan slots
   pub bounds : ArrivalBounds (decision_named name) plan slots
 
--- the run under the second scheduler of the `firm` job that the words mean
+-- the run under FIRM of the `firm` job that the words mean
 pub record IsFirmRunBy (c : Command) (plan : SwitchPlan) (slots : ℕ) : Type 0 where
   pub job : FirmWords
   pub table : List ℕ
@@ -247,7 +247,7 @@ IsRunOrGen (gen g) = Unit {0}
 IsRunOrGen (check c) = ⊥
 IsRunOrGen (firm f) = ⊥
 
--- At status 0 a `run` and a `gen` job have a run, and a `firm` job has one under the second scheduler.
+-- At status 0 a `run` and a `gen` job have a run, and a `firm` job has one under FIRM.
 pub record HasRun (c : Command) (status : ℕ) : Type 0 where
   pub switch : (job : JobWords) → c.job ≡ Some job → IsRunOrGen job → status ≡ 0 → (plan : SwitchPlan) × (slots : ℕ) × IsRunBy c plan slots
   pub second : (job : FirmWords) → c.job ≡ Some (firm job) → status ≡ 0 → (plan : SwitchPlan) × (slots : ℕ) × IsFirmRunBy c plan slots

@@ -94,11 +94,11 @@ pub record IsSwitched (scheduler : Scheduler) (settings : Settings) (wanted : Wa
   pub small : IfSome texts.journal (λ bytes. length bytes ≤ MAX_JOURNAL_BYTES)
   pub packets_small : settings.long ≡ false → IfSome texts.packets (λ bytes. length bytes ≤ MAX_PACKETS_BYTES)
 
--- the texts of a run under the second scheduler: its summary alone
+-- the texts of a run under FIRM: its summary alone
 abbrev pub firm_texts : Summary → Texts
 firm_texts summary = record { outputs = []; report = []; journal = None; packets = None; summary = lines_text (summary_lines summary) }
 
--- A `firm` job runs under the second scheduler: the summary is that of the run of the job's table and captures. Where no admitted
+-- A `firm` job runs under FIRM: the summary is that of the run of the job's table and captures. Where no admitted
 -- packet of the best level of all is multicast, that level's longest wait is below N * N slots.
 pub record IsSwitchedByFirm (settings : Settings) (table : List ℕ) (files : List (List ℕ)) (texts : Texts) : Type 0 where
   pub plan : SwitchPlan

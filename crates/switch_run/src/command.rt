@@ -24,7 +24,7 @@ use reference_run::laws as references;
 use rotating_pick::MAX_PORTS;
 use run_journals::laws as journals;
 use run_laws::{deliveries, departures, ends, numbers, waits};
-use scheduler_runs::laws as second_runs;
+use scheduler_runs::laws as named_runs;
 use std::alloc::Global;
 use std::thread::Threads;
 use switch_words::{Job, WordsFault, read_words};
@@ -138,7 +138,7 @@ fn end_of<R: Threads + Sync, F: Files, G: Gate + Sync>(
 ///
 /// The words are those of a `run`, a `gen`, a `check` or a `firm` job, as [`switch_words`] says. A `run` and a `firm`
 /// job read their table and then each capture whole. Of these, or of the input that a `gen` job makes, the switch is
-/// planned and run to its end: for `firm` under the second scheduler, for `run` and `gen` under the one that
+/// planned and run to its end: for `firm` under FIRM, for `run` and `gen` under the one that
 /// `--scheduler` names, `islip`, `firm` or `rrm`, `islip` where it names none. The run under `islip` is made at the
 /// board, by the line cards; with `--alone` or `--long`, and under the other schedulers, it is made on one thread. What
 /// is written is the same either way. A job with `--long` has the limits of long jobs, `long_limits` of `switch_plan`,
@@ -180,7 +180,7 @@ fn end_of<R: Threads + Sync, F: Files, G: Gate + Sync>(
 /// many packets of each state as the summary, and those of forwarded packets are as many as it has copies. Where each
 /// packet goes to one output and a slot has as many rounds as ports, or more, what arrives bounds how long cells wait and
 /// packets take, how many cells inputs hold and wait for outputs, the depth with which nothing is dropped, and the run's
-/// end. Of the run of a `firm` job, under the second scheduler, the same is promised of what is delivered, of arrivals and
+/// end. Of the run of a `firm` job, under FIRM, the same is promised of what is delivered, of arrivals and
 /// counts, of how soon a unicast queue is served and a multicast head completes, of how long waits are, and of its slots.
 ///
 /// Where a count of refused reads rose the status is 3, and where one of what is written or of standard output did it is 6.
@@ -204,8 +204,8 @@ pub fn switch_main<R: Threads + Sync, F: Files, G: Gate + Sync>(
     waits::waiting_queues_are_served();
     waits::waiting_queues_are_served_in_time();
     waits::best_level_waits_are_short();
-    second_runs::multicast_completes_under_each();
-    second_runs::multicast_completes_in_time_under_each();
+    named_runs::multicast_completes_under_each();
+    named_runs::multicast_completes_in_time_under_each();
     schedulers::each_is_a_scheduler();
     ends::runs_end();
     ends::busy_slots_match();
@@ -215,7 +215,7 @@ pub fn switch_main<R: Threads + Sync, F: Files, G: Gate + Sync>(
     references::reference_is_never_behind();
     references::whole_runs_serve_the_same();
     references::lines_tell_the_delays();
-    second_runs::runs_are_as_promised();
+    named_runs::runs_are_as_promised();
     journals::journals_of_runs_are_lawful();
     measures::lines_add_up();
     sizes::runs_are_sized();

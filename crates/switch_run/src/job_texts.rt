@@ -81,7 +81,7 @@ pub(crate) fn texts_of_gen<R: Threads + Sync, G: Gate + Sync>(
     Ok(summary_alone(alloc, &summary)?)
 }
 
-/// What a `firm` job writes: its inputs are read, and run under the second scheduler.
+/// What a `firm` job writes: its inputs are read, and run under FIRM.
 pub(crate) fn texts_of_firm<R: Threads + Sync, F: Files, G: Gate + Sync>(
     rt: &R,
     alloc: Global,

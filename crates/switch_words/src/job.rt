@@ -79,7 +79,7 @@ pub struct CheckJob {
     pub file: String,
 }
 
-/// Switch the packets of captures by the second scheduler, and tell only the summary.
+/// Switch the packets of captures by FIRM, and tell only the summary.
 #[derive(Debug, Drop)]
 pub struct FirmJob {
     /// How the job runs. No option says the workers, so they are 4.

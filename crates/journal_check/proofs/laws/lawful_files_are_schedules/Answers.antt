@@ -7,7 +7,7 @@ use Rattle.firm_rounds.specs.Decisions.{firm_decision}
 use Rattle.rrm_rounds.specs.Slots.{AreMovedByRrm}
 use Rattle.rrm_rounds.specs.Decisions.{rrm_decision}
 use Rattle.rrm_rounds.proofs.Scheduling.{IsSchedulerBy-rrm_decision, IsScheduler-rrm_decision}
-use Rattle.named_schedulers.proofs.SecondScheduler.{IsSchedulerBy-firm_decision, IsScheduler-firm_decision}
+use Rattle.named_schedulers.proofs.FirmScheduler.{IsSchedulerBy-firm_decision, IsScheduler-firm_decision}
 use Rattle.journal_check.proofs.Scheduling.{file_schedule, file_kept, file_all_within, file_matches}
 use Rattle.journal_check.proofs.laws.lawful_files_are_schedules.Goals as goal
 

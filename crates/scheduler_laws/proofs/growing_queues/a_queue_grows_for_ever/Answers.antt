@@ -3,7 +3,7 @@ use Rattle.eslip_rounds.specs.Decisions.{decision_of}
 use Rattle.eslip_rounds.proofs.Scheduling.{IsSchedulerBy-decision_of, IsScheduler-decision_of}
 use Rattle.firm_rounds.specs.Slots.{AreMovedByFirm}
 use Rattle.firm_rounds.specs.Decisions.{firm_decision}
-use Rattle.named_schedulers.proofs.SecondScheduler.{IsSchedulerBy-firm_decision, IsScheduler-firm_decision}
+use Rattle.named_schedulers.proofs.FirmScheduler.{IsSchedulerBy-firm_decision, IsScheduler-firm_decision}
 use Rattle.rrm_rounds.specs.Slots.{AreMovedByRrm}
 use Rattle.rrm_rounds.specs.Decisions.{rrm_decision}
 use Rattle.rrm_rounds.proofs.Scheduling.{IsSchedulerBy-rrm_decision, IsScheduler-rrm_decision}

@@ -1,7 +1,7 @@
 use Rattle.firm_rounds.specs.Slots.{AreMovedByFirm}
 use Rattle.firm_rounds.specs.Decisions.{firm_decision}
 use Rattle.run_laws.proofs.RunSchedule.{run-schedule, run-within, run-kept}
-use Rattle.named_schedulers.proofs.SecondScheduler.{IsSchedulerBy-firm_decision, IsScheduler-firm_decision}
+use Rattle.named_schedulers.proofs.FirmScheduler.{IsSchedulerBy-firm_decision, IsScheduler-firm_decision}
 use Rattle.scheduler_runs.proofs.laws.slots_are_a_schedule.Goals as goal
 
 pub returns-clause-schedule : goal.returns-clause-schedule

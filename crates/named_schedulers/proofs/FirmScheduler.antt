@@ -1,4 +1,4 @@
--- The second scheduler is a scheduler.
+-- FIRM is a scheduler.
 use Rattle.eslip_rounds.specs.Schedulers.{IsSchedulerBy, StayAtPorts, IsScheduler}
 use Rattle.eslip_rounds.proofs.Scheduling.{IsSlotBy-moved}
 use Rattle.firm_rounds.specs.Slots.{AreMovedByFirm}
