@@ -5,14 +5,12 @@ use Rattle.rotating_pick.specs.Rotation.{IsFirstFrom}
 use Rattle.rotating_pick.specs.declared.kinds.Kind.{Kind}
 use Rattle.rotating_pick.specs.declared.limits.TheConstants.{LEVELS}
 use Rattle.rotating_pick.proofs.First.{IsFirstFrom-along}
-use Rattle.rotating_pick.proofs.Picking.{Decides, IsFirstFrom-decides}
 use Rattle.slot_match.specs.declared.rows.Row.{Row}
 use Rattle.slot_match.specs.Rows.{Names, row_of}
 use Rattle.slot_match.specs.Matches.{unmatched}
 use Rattle.slot_match.proofs.Kept.{fed_of-unmatched, nobody_at_first}
 use Rattle.pointer_state.specs.Places.{Places}
 use Rattle.eslip_rounds.specs.Rounds.{Asks, preferred, from_of, Requests, IsBest, Grants}
-use Rattle.eslip_rounds.proofs.Deciding.{Names-decides}
 use Rattle.service_bound.specs.Windows.{IsClean}
 
 -- the kind comes first in the slot: where some row names an output with the preferred kind at the level, it is that kind
@@ -72,11 +70,3 @@ module _ (n t : ℕ) (rows : List Row) (places : Places) (level : ℕ) (level_in
           preferred_first = λ some. let first = some.1.first in
               first_kind.preferred_first i some.0 first.below (asks_at_first n rows i some.0 level (preferred t) first.member).named;
         }
-
-    pub Grants-decides : (i j : ℕ) → from_of places j level kind < n → j < n → Decides (Grants n t rows places (unmatched n) i j level kind)
-    Grants-decides i j from_in j_in =
-        elim (IsFirstFrom-decides n (from_of places j level kind) (λ x. Names (row_of rows x) level kind j)
-        (λ x. Names-decides (row_of rows x) level kind j) from_in i) [
-          | inl first ↦ inl (grants_first i j j_in first)
-          | inr other ↦ inr (λ granted. other (first_granted i j granted))
-        ]
