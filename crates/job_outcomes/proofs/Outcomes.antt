@@ -12,14 +12,12 @@ use Rattle.switch_words.specs.Reading.{JobWords, run, gen, check, firm, RunWords
 use Rattle.switch_plan.specs.GoodPlans.{SwitchPlan}
 use Rattle.switch_plan.proofs.Refused.{refusal_once}
 use Rattle.run_laws.proofs.RunEnds.{run_ends}
-use Rattle.run_laws.specs.Outcomes.{summary_under}
-use Rattle.scheduler_runs.proofs.Promised.{firm-run, short-waits}
 use Rattle.packet_times.specs.declared.limits.TheConstants.{MAX_PACKETS_BYTES}
 use Rattle.packet_times.specs.Rows.{packets_text_under}
 use Rattle.journal_check.specs.declared.limits.TheConstants.{MAX_JOURNAL_BYTES}
 use Rattle.run_journals.specs.RunFiles.{journal_text_under}
 use Rattle.job_files.specs.Jobs.{terms_in}
-use Rattle.switch_run.specs.Switched.{IsRunOf, JournalFits, firm_texts, nothing_wanted, texts_under, wanted_by}
+use Rattle.switch_run.specs.Switched.{IsRunOf, JournalFits, nothing_wanted, texts_under, wanted_by}
 use Rattle.switch_run.proofs.OneOutcome.{not_long, not_long_packets, not_made}
 use Rattle.switch_run.proofs.OnePlan.{journal_of_run, long_not_made, long_once, long_packets_not_made, long_packets_once, texts_once}
 use Rattle.job_outcomes.specs.Outcomes.{HasLongJournal, HasLongPackets, HasOneOutcome, IsOutcome, JournalTooLong, Made, Outcome, PacketsTooLong, Refused}
@@ -188,7 +186,5 @@ pub firm_has_one : (f : FirmWords) (table : List ℕ) (files : List (List ℕ)) 
 firm_has_one f table files (refused fault is) = one_outcome (firm f) table files (Refused fault) is
 firm_has_one f table files (planned plan is) =
     let ends = run_ends firm_decision IsScheduler-firm_decision plan is.good in
-    let summary = summary_under firm_decision plan ends.0 in
-    let ran = firm-run plan ends.0 summary ends.1 ends.2 refl in
-    one_outcome (firm f) table files (Made (firm_texts summary))
-    (record { plan = plan; summary = summary; planned = is; run = ran; waits = short-waits plan summary is.good ran; are = refl })
+    one_outcome (firm f) table files (Made (texts_under firm_decision nothing_wanted plan ends.0))
+    (record { plan = plan; slots = ends.0; run = record { planned = is; ends = ends.1 }; are = refl; small = tt; packets_small = λ short. tt })

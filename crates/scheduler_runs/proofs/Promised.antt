@@ -1,12 +1,9 @@
 -- What holds of every run under FIRM.
 use Rattle.std.proofs.Common.{◌≡◌, ◌∙◌, ℕ, ◌+◌, ◌*◌, map, take, drop, length, ap, sym, subst, arith}
 use Rattle.std.specs.List.{range_with_len}
-use Rattle.std.specs.Prelude.{◌<◌, ◌≤◌, slice_index}
-use Rattle.std.proofs.lemmas.List.FromFn.{length-map-range_with_len, get_or-map-range_with_len}
+use Rattle.std.proofs.lemmas.List.FromFn.{length-map-range_with_len}
 use Rattle.std_lemmas.proofs.Ranges.{middle}
 use Rattle.scheduler_names.specs.declared.names.SchedulerName.TheVariants.{Firm}
-use Rattle.rotating_pick.specs.declared.limits.TheConstants.{LEVELS}
-use Rattle.slot_report.specs.declared.summary.Summary.{Summary}
 use Rattle.rotating_pick.specs.declared.kinds.Kind.TheVariants.{Uni}
 use Rattle.slot_match.specs.Rows.{Names, row_of}
 use Rattle.pointer_state.specs.Places.{places_at_first}
@@ -33,8 +30,7 @@ use Rattle.run_laws.proofs.RunEnds.{run_bound}
 use Rattle.run_laws.proofs.RunSchedule.{run-schedule, run-within, run-kept}
 use Rattle.run_laws.proofs.RunWindows.{begins, in_first, best-window, best-alone}
 use Rattle.run_laws.proofs.Counted.{counted-once}
-use Rattle.run_laws.specs.Outcomes.{longest_under, summary_under}
-use Rattle.scheduler_runs.specs.FirmRuns.{IsFirmRun, HasShortWaits, FirmPromises}
+use Rattle.scheduler_runs.specs.FirmRuns.{FirmPromises}
 use Rattle.scheduler_runs.proofs.Completing.{completes-firm, completes-in_time_under_each}
 use Rattle.named_schedulers.proofs.FirmScheduler.{IsSchedulerBy-firm_decision, IsScheduler-firm_decision}
 
@@ -90,24 +86,3 @@ module _ (plan : SwitchPlan) (good : IsGood plan) (slots : ℕ) where
     few_slots = run_bound firm_decision IsScheduler-firm_decision plan good slots ends;
     busy_slots = λ i t inside busy. busy_matches firm_decision IsScheduler-firm_decision plan good i t inside busy;
   }
-
--- the longest wait of the best level in the numbers of a run
-pub short-waits : (plan : SwitchPlan) (summary : Summary) → IsGood plan → IsFirmRun plan summary → HasShortWaits plan summary
-unfolding summary_under
-short-waits plan summary good run level best =
-    let at : slice_index summary.longest level ≡ longest_under firm_decision plan summary.slots level =
-    ap (λ (s : Summary). slice_index s.longest level) run.numbers
-    ∙ get_or-map-range_with_len (longest_under firm_decision plan summary.slots) 0 LEVELS level level 0 best.level_in (omega arith) in
-    subst (λ k. k < ports_of plan * ports_of plan) (sym at) (firm-waits plan good summary.slots level best)
-
--- the numbers of a run under FIRM, of so many slots
-pub firm-run : (plan : SwitchPlan) (slots : ℕ) (summary : Summary) → IsLengthUnder firm_decision plan slots → slots ≤ plan.max_slots
-    → summary ≡ summary_under firm_decision plan slots → IsFirmRun plan summary
-unfolding summary_under
-firm-run plan slots summary ends within is =
-    let slots_are : summary.slots ≡ slots = ap (λ (s : Summary). s.slots) is in
-    record {
-      ends = subst (IsLengthUnder firm_decision plan) (sym slots_are) ends;
-      within = subst (λ k. k ≤ plan.max_slots) (sym slots_are) within;
-      numbers = is ∙ ap (summary_under firm_decision plan) (sym slots_are);
-    }

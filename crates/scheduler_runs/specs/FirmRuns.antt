@@ -1,26 +1,12 @@
 -- The run of a plan under FIRM.
-use Rattle.std.specs.Prelude.{◌≡◌, ℕ, ◌*◌, ◌<◌, ◌≤◌, slice_index}
+use Rattle.std.specs.Prelude.{ℕ, ◌*◌}
 use Rattle.firm_rounds.specs.Decisions.{firm_decision}
-use Rattle.slot_report.specs.declared.summary.Summary.{Summary}
 use Rattle.switch_plan.specs.GoodPlans.{SwitchPlan}
 use Rattle.run_laws.specs.Runs.{ports_of}
-use Rattle.run_laws.specs.Ends.{IsLengthUnder}
-use Rattle.run_laws.specs.Sums.{IsBestUnder}
 use Rattle.run_laws.specs.Promises.{ArrivalsComeFirst, BusySlotsMatchUnder, CompletesUnder, DeliversUnder, DeliversNoOthersUnder, HasFewSlotsUnder}
 use Rattle.run_laws.specs.Promises.{ServesUnder, WaitsUnder}
 use Rattle.run_laws.specs.InTime.{CompletesInTimeUnder, ServesInTimeUnder}
 use Rattle.run_laws.specs.Outcomes.{summary_under, CountsPacketsOnce}
-
--- these are the numbers of the plan's run, to its end
-pub record IsFirmRun (plan : SwitchPlan) (summary : Summary) : Type 0 where
-  pub ends : IsLengthUnder firm_decision plan summary.slots
-  pub within : summary.slots ≤ plan.max_slots
-  pub numbers : summary ≡ summary_under firm_decision plan summary.slots
-
--- Where none of the best level of all admitted packets is multicast, its longest wait is below N * N slots.
-abbrev pub HasShortWaits : SwitchPlan → Summary → Type 0
-HasShortWaits plan summary = (level : ℕ) → IsBestUnder firm_decision plan summary.slots level
-    → slice_index summary.longest level < ports_of plan * ports_of plan
 
 -- What is promised of a plan's run under FIRM that has so many slots: what it delivers, that all packets
 -- arrive before its end and are counted once, within how many slots a unicast queue is served and a multicast head

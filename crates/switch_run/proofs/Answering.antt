@@ -235,18 +235,18 @@ pub run_good : (job : JobWords) (table : List ℕ) (captures : List (List ℕ)) 
 run_good (run r) table captures plan slots is = is.planned.good
 run_good (gen g) table captures plan slots is = is.planned.good
 run_good (check w) table captures plan slots is = absurd is
-run_good (firm f) table captures plan slots is = absurd is
+run_good (firm f) table captures plan slots is = is.planned.good
 
 pub run_plan : (job : JobWords) (table : List ℕ) (captures : List (List ℕ)) (plan : SwitchPlan) (slots : ℕ) → IsRunFor job table captures plan slots
     → (settings : Settings) × IsPlanned settings table captures plan
 run_plan (run r) table captures plan slots is = (r.settings, is.planned)
 run_plan (gen g) table captures plan slots is = (g.settings, is.planned)
 run_plan (check w) table captures plan slots is = absurd is
-run_plan (firm f) table captures plan slots is = absurd is
+run_plan (firm f) table captures plan slots is = (f.settings, is.planned)
 
 pub run_ends : (job : JobWords) (table : List ℕ) (captures : List (List ℕ)) (plan : SwitchPlan) (slots : ℕ) → IsRunFor job table captures plan slots
     → IsLengthUnder (decision_named (scheduler_in job)) plan slots
 run_ends (run r) table captures plan slots is = is.ends
 run_ends (gen g) table captures plan slots is = is.ends
 run_ends (check w) table captures plan slots is = absurd is
-run_ends (firm f) table captures plan slots is = absurd is
+run_ends (firm f) table captures plan slots is = is.ends

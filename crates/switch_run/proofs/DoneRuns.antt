@@ -1,16 +1,17 @@
 -- At status 0 a job that runs a switch has a run: that of its texts.
 use Rattle.std.proofs.Common.{◌≡◌, ℕ, Some, subst, arith}
-use Rattle.switch_words.specs.Reading.{JobWords, run, gen, check, firm, CheckWords, FirmWords}
+use Rattle.switch_words.specs.Reading.{JobWords, run, gen, check, firm, CheckWords}
 use Rattle.switch_plan.specs.GoodPlans.{SwitchPlan}
 use Rattle.job_files.specs.declared.ending.Ending.{Ending}
 use Rattle.job_files.specs.declared.ending.Ending.TheVariants.{Done, Usage, ReadFault, TooLong, Refused, JournalTooLong, PacketsTooLong, OutOfMemory}
 use Rattle.job_files.specs.declared.ending.Ending.TheVariants.{WriteFault, Checked}
+use Rattle.job_files.specs.Jobs.{RunsSwitch}
 use Rattle.switch_run.specs.Endings.{Command, IsDone}
-use Rattle.switch_run.specs.Causes.{Answers, HasRun, IsFirmRunBy, IsRunBy, IsRunOrGen}
+use Rattle.switch_run.specs.Causes.{Answers, HasRun, IsRunBy}
 use Rattle.switch_run.proofs.Answering.{same_job}
 
 -- the run of texts that were written
-run_of : (c : Command) (job : JobWords) → c.job ≡ Some job → IsRunOrGen job → IsDone job c.old c.new
+run_of : (c : Command) (job : JobWords) → c.job ≡ Some job → RunsSwitch job → IsDone job c.old c.new
     → (plan : SwitchPlan) × (slots : ℕ) × IsRunBy c plan slots
 run_of c (run r) words runs done =
     let m = done.made in
@@ -21,23 +22,14 @@ run_of c (gen g) words runs done =
     let is = m.outcome in
     (is.plan, is.slots, record { job = gen g; table = m.table; captures = m.captures; words = words; inputs = m.inputs; run = is.run })
 run_of c (check w) words runs done = absurd runs
-run_of c (firm f) words runs done = absurd runs
-
-firm_run_of : (c : Command) (f : FirmWords) → c.job ≡ Some (firm f) → IsDone (firm f) c.old c.new → (plan : SwitchPlan) × (slots : ℕ) × IsFirmRunBy c plan slots
-firm_run_of c f words done =
+run_of c (firm f) words runs done =
     let m = done.made in
-    let is = m.outcome in (
-      is.plan,
-      is.summary.slots,
-      record { job = f; table = m.table; captures = m.captures; words = words; inputs = m.inputs; planned = is.planned; ends = is.run.ends },
-    )
+    let is = m.outcome in
+    (is.plan, is.slots, record { job = firm f; table = m.table; captures = m.captures; words = words; inputs = m.inputs; run = is.run })
 
 -- a check has no texts
-check_is_none : (job : JobWords) (w : CheckWords) → job ≡ check w → IsRunOrGen job → ⊥
-check_is_none job w is runs = subst IsRunOrGen is runs
-
-check_is_no_firm : (f : FirmWords) (w : CheckWords) → firm f ≡ check w → ⊥
-check_is_no_firm f w same = absurd (cc)
+check_is_none : (job : JobWords) (w : CheckWords) → job ≡ check w → RunsSwitch job → ⊥
+check_is_none job w is runs = subst RunsSwitch is runs
 
 module _ (c : Command) (job : JobWords) (words : c.job ≡ Some job) where
   done_of : (other : JobWords) → c.job ≡ Some other → IsDone other c.old c.new → IsDone job c.old c.new
@@ -49,13 +41,10 @@ module _ (c : Command) (job : JobWords) (words : c.job ≡ Some job) where
 
 -- at another status nothing is promised
 no_run : (c : Command) (status : ℕ) → (status ≡ 0 → ⊥) → HasRun c status
-no_run c status other = record { switch = λ job words runs done. absurd (other done); second = λ f words done. absurd (other done) }
+no_run c status other = λ job words runs done. absurd (other done)
 
 pub has_run : (c : Command) (status : ℕ) (ending : Ending) → Answers c status ending → HasRun c status
-has_run c status Done a = record {
-  switch = λ job words runs at. run_of c job words runs (done_of c job words a.1.0 a.1.1 a.1.2);
-  second = λ f words at. firm_run_of c f words (done_of c (firm f) words a.1.0 a.1.1 a.1.2);
-}
+has_run c status Done a = λ job words runs at. run_of c job words runs (done_of c job words a.1.0 a.1.1 a.1.2)
 has_run c status Usage a = no_run c status (λ done. omega (arith, a.0, done))
 has_run c status (ReadFault input) a = no_run c status (λ done. omega (arith, a.0, done))
 has_run c status (TooLong input) a = no_run c status (λ done. omega (arith, a.0, done))
@@ -64,8 +53,5 @@ has_run c status (JournalTooLong size) a = no_run c status (λ done. omega (arit
 has_run c status (PacketsTooLong size) a = no_run c status (λ done. omega (arith, a.0, done))
 has_run c status OutOfMemory a = no_run c status (λ done. omega (arith, a.0, done))
 has_run c status (WriteFault what) a = no_run c status (λ done. omega (arith, a.0, done))
-has_run c status (Checked e) a = record {
-  switch = λ job words runs at. absurd (check_is_none job a.1.stops.words (is_check c job words a.1.stops.words a.1.job a.1.words a.1.stops.is_check) runs);
-  second = λ f words at.
-      absurd (check_is_no_firm f a.1.stops.words (is_check c (firm f) words a.1.stops.words a.1.job a.1.words a.1.stops.is_check));
-}
+has_run c status (Checked e) a = λ job words runs at.
+    absurd (check_is_none job a.1.stops.words (is_check c job words a.1.stops.words a.1.job a.1.words a.1.stops.is_check) runs)

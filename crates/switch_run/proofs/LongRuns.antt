@@ -24,12 +24,13 @@ use Rattle.switch_plan.specs.Refusals.{burst_limits, first_link, first_over, lon
 use Rattle.switch_plan.specs.GoodPlans.{SwitchPlan, IsGood, IsBurst, packets_in}
 use Rattle.switch_plan.proofs.RoomBounds.{most_few}
 use Rattle.eslip_rounds.specs.Schedulers.{Scheduler}
+use Rattle.firm_rounds.specs.Decisions.{firm_decision}
 use Rattle.named_schedulers.specs.Named.{decision_named}
 use Rattle.run_notes.specs.declared.wanted.Wanted.{Wanted}
 use Rattle.job_files.specs.Inputs.{AreFilesRead, AreInputs}
 use Rattle.job_files.specs.Jobs.{ReadWords, capture_bytes, long_settings, run_reads, firm_reads, with_long}
 use Rattle.job_files.specs.OutputFiles.{Texts}
-use Rattle.switch_run.specs.Switched.{IsJobOutcome, IsPlanned, IsSwitched, IsSwitchedByFirm, wanted_by}
+use Rattle.switch_run.specs.Switched.{IsJobOutcome, IsPlanned, IsSwitched, nothing_wanted, wanted_by}
 
 -- ---- what the limits of a burst let through, those of a long job do
 
@@ -131,22 +132,12 @@ module _ (settings : Settings) (table : List ℕ) (files : List (List ℕ)) wher
     packets_small = λ short. absurd (cc);
   }
 
-  same_by_firm : (texts : Texts) → IsSwitchedByFirm settings table files texts → IsSwitchedByFirm (long_settings settings) table files texts
-  same_by_firm texts p = record {
-    plan = p.plan;
-    summary = p.summary;
-    planned = still_planned p.plan p.planned;
-    run = p.run;
-    waits = p.waits;
-    are = p.are;
-  }
-
 pub same_when_long : (job : JobWords) (table : List ℕ) (files : List (List ℕ)) (texts : Texts) → IsJobOutcome job table files (Ok texts)
     → IsJobOutcome (with_long job) table files (Ok texts)
 same_when_long (run r) table files texts is = same_switched r.settings table files (decision_named r.scheduler) (wanted_by r) texts is
 same_when_long (gen g) table files texts is = is
 same_when_long (check c) table files texts is = is
-same_when_long (firm f) table files texts is = same_by_firm f.settings table files texts is
+same_when_long (firm f) table files texts is = same_switched f.settings table files firm_decision nothing_wanted texts is
 
 -- ---- and so is what is read
 

@@ -43,4 +43,4 @@ pub not_made : (job : JobWords) (text : List ℕ) (files : List (List ℕ)) (a :
 not_made (run r) text files a texts p q = not_planned r.settings text files a q.plan p q.run.planned
 not_made (gen g) text files a texts p q = not_planned g.settings text files a q.plan p q.run.planned
 not_made (check c) text files a texts p q = q
-not_made (firm f) text files a texts p q = not_planned f.settings text files a q.plan p q.planned
+not_made (firm f) text files a texts p q = not_planned f.settings text files a q.plan p q.run.planned

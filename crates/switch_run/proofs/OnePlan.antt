@@ -18,19 +18,16 @@ use Rattle.switch_plan.specs.GoodPlans.{SwitchPlan, IsCardOf, IsGood, IsPlanOf, 
 use Rattle.eslip_rounds.specs.Schedulers.{Scheduler}
 use Rattle.named_schedulers.specs.Named.{decision_named}
 use Rattle.firm_rounds.specs.Decisions.{firm_decision}
-use Rattle.slot_report.specs.declared.summary.Summary.{Summary}
 use Rattle.journal_check.specs.declared.limits.TheConstants.{MAX_JOURNAL_BYTES}
 use Rattle.switch_words.specs.Reading.{JobWords, run, gen, check, firm}
 use Rattle.run_laws.specs.Runs.{no_plan, ports_of, posts_under}
 use Rattle.run_laws.specs.Ends.{IsLengthUnder}
-use Rattle.run_laws.specs.Outcomes.{summary_under}
 use Rattle.run_journals.specs.RunFiles.{journal_text_under}
 use Rattle.packet_times.specs.declared.limits.TheConstants.{MAX_PACKETS_BYTES}
 use Rattle.packet_times.specs.Rows.{packets_text_under}
-use Rattle.scheduler_runs.specs.FirmRuns.{IsFirmRun}
 use Rattle.run_notes.specs.declared.wanted.Wanted.{Wanted}
 use Rattle.job_files.specs.OutputFiles.{Texts}
-use Rattle.switch_run.specs.Switched.{AreTexts, IsLongJournal, IsLongPackets, IsPlanned, IsRunOf, IsSwitched, IsSwitchedByFirm, firm_texts}
+use Rattle.switch_run.specs.Switched.{AreTexts, IsLongJournal, IsLongPackets, IsPlanned, IsRunOf, IsSwitched}
 use Rattle.switch_run.specs.Switched.{nothing_wanted, texts_under, wanted_by}
 use Rattle.switch_run.proofs.OneOutcome.{same_captures, same_table}
 
@@ -211,23 +208,12 @@ switched_once scheduler settings wanted table files a b p q =
     let same = same_run scheduler settings table files p.plan q.plan p.slots q.slots p.run q.run in
     p.are ∙ ap (λ (plan : SwitchPlan). texts_under scheduler wanted plan p.slots) same.0 ∙ ap (texts_under scheduler wanted q.plan) same.1 ∙ sym q.are
 
--- the numbers of a run under FIRM are one
-firm_runs_once : (plan : SwitchPlan) (a b : Summary) → IsFirmRun plan a → IsFirmRun plan b → a ≡ b
-firm_runs_once plan a b p q = p.numbers ∙ ap (summary_under firm_decision plan) (lengths_once firm_decision plan a.slots b.slots p.ends q.ends) ∙ sym q.numbers
-
-firm_once : (settings : Settings) (table : List ℕ) (files : List (List ℕ)) (a b : Texts) → IsSwitchedByFirm settings table files a
-    → IsSwitchedByFirm settings table files b → a ≡ b
-firm_once settings table files a b p q =
-    let plan = same_plan settings table files p.plan q.plan p.planned q.planned in
-    let numbers = firm_runs_once q.plan p.summary q.summary (subst (λ (plan : SwitchPlan). IsFirmRun plan p.summary) plan p.run) q.run in
-    p.are ∙ ap firm_texts numbers ∙ sym q.are
-
 -- a job makes one list of texts
 pub texts_once : (job : JobWords) (table : List ℕ) (files : List (List ℕ)) (a b : Texts) → AreTexts job table files a → AreTexts job table files b → a ≡ b
 texts_once (run r) table files a b p q = switched_once (decision_named r.scheduler) r.settings (wanted_by r) table files a b p q
 texts_once (gen g) table files a b p q = switched_once (decision_named g.scheduler) g.settings nothing_wanted table files a b p q
 texts_once (check c) table files a b p q = absurd p
-texts_once (firm f) table files a b p q = firm_once f.settings table files a b p q
+texts_once (firm f) table files a b p q = switched_once firm_decision f.settings nothing_wanted table files a b p q
 
 module _ (scheduler : Scheduler) (settings : Settings) (table : List ℕ) (files : List (List ℕ)) where
   -- a journal that is too long is that of the job's run

@@ -19,7 +19,7 @@ use Rattle.card_core.specs.Posts.{post_at}
 use Rattle.slot_match.specs.declared.matching.Served.{Served}
 use Rattle.crossbar.specs.declared.cards.Post.{Post}
 use Rattle.slot_histories.specs.Tests.{has}
-use Rattle.card_core.specs.Queues.{admitted, dropped, enters, is_admitted, is_routed}
+use Rattle.card_core.specs.Queues.{admitted, dropped, enters, is_routed}
 use Rattle.card_core.specs.Deliveries.{delivered}
 use Rattle.slot_report.specs.Lines.{lines_text}
 use Rattle.slot_report.specs.Texts.{report_bytes, summary_lines}
@@ -35,7 +35,6 @@ use Rattle.switch_plan.specs.GoodPlans.{SwitchPlan, IsGood, IsBurst, IsCountable
 use Rattle.run_laws.specs.Runs.{after_slot, before_under, card_at, decision_in, parts_under, journal_under, ports_of, posts_under, setup_for}
 use Rattle.run_laws.specs.Ends.{IsLengthUnder}
 use Rattle.run_laws.specs.Crossings.{cells_under, queue_to}
-use Rattle.run_laws.specs.Sums.{IsAdmittedUnder, IsBestUnder}
 use Rattle.run_laws.specs.Outcomes.{over_ports, summary_under}
 use Rattle.run_journals.specs.RunFiles.{journal_text_under}
 use Rattle.reference_run.specs.RunLines.{run_lines_under}
@@ -46,7 +45,7 @@ use Rattle.packet_times.specs.Rows.{aside_row, departure_if, header, outputs_in,
 use Rattle.run_notes.specs.declared.wanted.Wanted.{Wanted}
 use Rattle.job_files.specs.Jobs.{settings_with, with_alone, with_workers}
 use Rattle.job_files.specs.OutputFiles.{Texts}
-use Rattle.switch_run.specs.Switched.{IsJobOutcome, IsLongJournal, IsLongPackets, IsPlanned, IsRunOf, IsSwitched, IsSwitchedByFirm}
+use Rattle.switch_run.specs.Switched.{IsJobOutcome, IsLongJournal, IsLongPackets, IsPlanned, IsRunOf, IsSwitched}
 use Rattle.switch_run.specs.Switched.{nothing_wanted, texts_under, wanted_by}
 
 -- the same plan but for the number of workers
@@ -87,24 +86,6 @@ module _ (scheduler : Scheduler) (workers : ℕ) (plan : SwitchPlan) where
     count = ends.count;
     done = subst (λ posts. is_done_at (ports_of plan) posts ends.last ≡ true) same_posts ends.done;
     going = subst (λ posts. is_done_before (ports_of plan) posts ends.last ≡ false) same_posts ends.going;
-  }
-
-  same_admitted : (slots i : ℕ) (packet : Planned) → IsAdmittedUnder scheduler plan slots i packet
-      → IsAdmittedUnder scheduler (plan_with workers plan) slots i packet
-  same_admitted slots i packet a = record {
-    place = a.place;
-    found = a.found;
-    early = a.early;
-    routed = a.routed;
-    admitted = subst (λ parts. is_admitted (card_at plan i) (parts i slots) packet.arrival packet ≡ true) same_parts a.admitted;
-  }
-
-  -- a best level with the other number is a best level
-  same_best : (slots level : ℕ) → IsBestUnder scheduler (plan_with workers plan) slots level → IsBestUnder scheduler plan slots level
-  same_best slots level b = record {
-    level_in = b.level_in;
-    best = λ i packet inside is. b.best i packet inside (same_admitted slots i packet is);
-    unicast = λ i packet inside is. b.unicast i packet inside (same_admitted slots i packet is);
   }
 
 -- ---- its texts are the same
@@ -240,20 +221,6 @@ module _ (workers : ℕ) (few : IsUpTo MAX_WORKERS workers) where
       packets_small = p.packets_small;
     }
 
-    same_by_firm : (texts : Texts) → IsSwitchedByFirm settings table files texts → IsSwitchedByFirm (settings_with workers settings) table files texts
-    same_by_firm texts p = record {
-      plan = plan_with workers p.plan;
-      summary = p.summary;
-      planned = still_planned p.plan p.planned;
-      run = record {
-        ends = same_length firm_decision workers p.plan p.summary.slots p.run.ends;
-        within = p.run.within;
-        numbers = p.run.numbers ∙ same_summary firm_decision workers p.plan p.summary.slots;
-      };
-      waits = λ level best. p.waits level (same_best firm_decision workers p.plan p.summary.slots level best);
-      are = p.are;
-    }
-
 -- ---- the job's outcome is the same
 
 pub same_outcome : (job : JobWords) (workers : ℕ) (table : List ℕ) (files : List (List ℕ)) (outcome : Result Texts PlanFault) → IsUpTo MAX_WORKERS workers
@@ -264,7 +231,7 @@ same_outcome (run r) workers table files (Err fault) few is = is
 same_outcome (gen g) workers table files (Ok texts) few is = same_switched workers few g.settings table files
     (decision_named g.scheduler) nothing_wanted texts is
 same_outcome (gen g) workers table files (Err fault) few is = is
-same_outcome (firm f) workers table files (Ok texts) few is = same_by_firm workers few f.settings table files texts is
+same_outcome (firm f) workers table files (Ok texts) few is = same_switched workers few f.settings table files firm_decision nothing_wanted texts is
 same_outcome (firm f) workers table files (Err fault) few is = is
 same_outcome (check c) workers table files outcome few is = is
 

@@ -5,15 +5,14 @@ use Rattle.std.proofs.lemmas.List.{length-map}
 use Rattle.std.proofs.lemmas.List.FromFn.{length-map-range_with_len}
 use Rattle.pcap_records.specs.Output.{capture_text}
 use Rattle.eslip_rounds.specs.Schedulers.{Scheduler}
-use Rattle.scheduler_names.specs.declared.names.SchedulerName.TheVariants.{Firm}
 use Rattle.named_schedulers.specs.Named.{decision_named}
 use Rattle.slot_histories.specs.Answers.{JournalSlot}
 use Rattle.slot_report.specs.declared.summary.OutLine.{OutLine}
 use Rattle.slot_report.specs.declared.summary.Summary.{Summary}
 use Rattle.slot_report.specs.Lines.{lines_text}
 use Rattle.slot_report.specs.Texts.{journal_line, map_with_place, report_bytes, summary_lines}
-use Rattle.switch_words.specs.declared.job.GenJob.{GenJob}
-use Rattle.switch_words.specs.Reading.{FirmWords, RunWords, run, gen, firm}
+use Rattle.switch_words.specs.declared.job.Settings.{Settings}
+use Rattle.switch_words.specs.Reading.{JobWords, RunWords, run}
 use Rattle.journal_check.specs.declared.limits.TheConstants.{MAX_JOURNAL_BYTES}
 use Rattle.switch_plan.specs.GoodPlans.{SwitchPlan}
 use Rattle.switch_plan.specs.ReadingSteps.{bytes_of_files}
@@ -30,10 +29,8 @@ use Rattle.switch_run.specs.declared.runs.EndedRun.{EndedRun}
 use Rattle.switch_run.specs.MakingSteps.{AreMade, AreNumbersOf, IsRan, ToWrite}
 use Rattle.outside.specs.WholeFiles.{NamedBytes}
 use Rattle.job_files.specs.FileSteps.{files_before}
-use Rattle.job_files.specs.OutputFiles.{files_from, files_in_order, journal_files, packets_files, packets_place, report_name, Texts}
-use Rattle.switch_run.specs.Switched.{IsRunOf, firm_texts, nothing_wanted, out_lines_under, report_under, texts_under, wanted_by}
-use Rattle.scheduler_runs.proofs.Promised.{firm-run, short-waits}
-use Rattle.job_files.proofs.Holding.{gen_is_no_run, firm_is_no_run}
+use Rattle.job_files.specs.OutputFiles.{files_from, files_in_order, files_of, journal_files, packets_files, packets_place, report_name, Texts}
+use Rattle.switch_run.specs.Switched.{AreTexts, IsRunOf, IsSwitched, nothing_wanted, out_lines_under, report_under, texts_under, wanted_by}
 
 -- the packets file stands after the others
 pub in_order : (prefix : List ℕ) (outputs : List (List ℕ)) (report : List ℕ) (journal packets : Option (List ℕ)) (first last : List NamedBytes)
@@ -132,48 +129,22 @@ module _ (r : RunWords) (table : List ℕ) (captures : List (List ℕ)) (it : En
         summary_is = summary_is ∙ ap (λ (s : Summary). lines_text (summary_lines s)) left.summary;
       }
 
-module _ (g : GenJob) (table : List ℕ) (captures : List (List ℕ)) (numbers : Summary)
-    (of : AreNumbersOf (decision_named g.scheduler) g.settings table captures numbers) where
-  -- the summary of a run, alone: the texts of the outputs and the report are those of the run, and are not written
-  pub gen_made : (written : ToWrite) → written.files ≡ [] → written.summary ≡ lines_text (summary_lines numbers) → AreMade (gen g) table captures written
-  gen_made written files_is summary_is = record {
-    texts = texts_under (decision_named g.scheduler) nothing_wanted of.plan of.ran.slots;
-    outcome = record {
-      plan = of.plan;
-      slots = of.ran.slots;
-      run = record { planned = of.planned; ends = of.ran.ends };
-      are = refl;
-      small = tt;
-      packets_small = λ short. tt;
-    };
-    count = length-map-range_with_len
-        (λ j. capture_text of.plan.nano of.plan.link (messages_under (decision_named g.scheduler) of.plan j of.ran.slots)) 0 (ports_of of.plan)
-        ∙ sym (length-map of.plan.cards (λ card. card.bytes)) ∙ ap length of.planned.planned.kept;
-    outputs_are = λ words is. absurd (gen_is_no_run g words is);
-    before = λ words is. absurd (gen_is_no_run g words is);
-    files_are = files_is;
-    summary_is = summary_is ∙ ap (λ (s : Summary). lines_text (summary_lines s)) of.ran.are;
-  }
-
--- the summary of a run under FIRM
-pub firm_made : (f : FirmWords) (table : List ℕ) (captures : List (List ℕ)) (numbers : Summary) (written : ToWrite)
-    → AreNumbersOf (decision_named Firm) f.settings table captures numbers
-    → written.files ≡ [] → written.summary ≡ lines_text (summary_lines numbers) → AreMade (firm f) table captures written
-firm_made f table captures numbers written of files_is summary_is =
-    let run = firm-run of.plan of.ran.slots numbers of.ran.ends of.ran.within of.ran.are in
+-- A job that is no `run` writes the summary of its run alone: the texts of the outputs and the report are those of the run, and
+-- are not written.
+pub summary_made : (scheduler : Scheduler) (settings : Settings) (table : List ℕ) (captures : List (List ℕ)) (numbers : Summary) (job : JobWords)
+    (written : ToWrite) → AreNumbersOf scheduler settings table captures numbers → ((r : RunWords) → job ≡ run r → ⊥)
+    → ((texts : Texts) → IsSwitched scheduler settings nothing_wanted table captures texts → AreTexts job table captures texts)
+    → ((texts : Texts) → written.files ≡ files_of job texts) → written.summary ≡ lines_text (summary_lines numbers) → AreMade job table captures written
+summary_made scheduler settings table captures numbers job written of no_run made files_are summary_is =
+    let texts = texts_under scheduler nothing_wanted of.plan of.ran.slots in
+    let ran : IsRunOf scheduler settings table captures of.plan of.ran.slots = record { planned = of.planned; ends = of.ran.ends } in
     record {
-      texts = firm_texts numbers;
-      outcome = record {
-        plan = of.plan;
-        summary = numbers;
-        planned = of.planned;
-        run = run;
-        waits = short-waits of.plan numbers of.planned.good run;
-        are = refl;
-      };
-      count = refl;
-      outputs_are = λ words is. absurd (firm_is_no_run f words is);
-      before = λ words is. absurd (firm_is_no_run f words is);
-      files_are = files_is;
-      summary_is = summary_is;
+      texts = texts;
+      outcome = made texts (record { plan = of.plan; slots = of.ran.slots; run = ran; are = refl; small = tt; packets_small = λ short. tt });
+      count = length-map-range_with_len (λ j. capture_text of.plan.nano of.plan.link (messages_under scheduler of.plan j of.ran.slots)) 0 (ports_of of.plan)
+          ∙ sym (length-map of.plan.cards (λ card. card.bytes)) ∙ ap length of.planned.planned.kept;
+      outputs_are = λ words is. absurd (no_run words is);
+      before = λ words is. absurd (no_run words is);
+      files_are = files_are texts;
+      summary_is = summary_is ∙ ap (λ (s : Summary). lines_text (summary_lines s)) of.ran.are;
     }

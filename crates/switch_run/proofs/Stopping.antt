@@ -20,7 +20,7 @@ use Rattle.job_files.specs.Inputs.{AreInputs}
 use Rattle.job_files.specs.LineParts.{GivesLine}
 use Rattle.job_files.specs.ErrorLines.{line_of}
 use Rattle.job_files.specs.RefusalLines.{memory_line}
-use Rattle.switch_run.specs.Endings.{Command, IsDone, IsMade, IsStopped, IsWriteFault, Means, Stops, StopsAtFile, StopsWriting, captures_made}
+use Rattle.switch_run.specs.Endings.{Command, IsDone, IsMade, IsStopped, IsWriteFault, Means, Stops, StopsAtFile, StopsWriting}
 use Rattle.switch_run.specs.MakingSteps.{AreMade, AreToWrite, IsEndOf, StopsPlan, StopsTexts, ToWrite}
 use Rattle.switch_run.specs.Switched.{wanted_by}
 use Rattle.job_files.specs.FileSteps.{StopsPutting, StopsReading, files_before}
@@ -137,21 +137,12 @@ texts_stop r old seen was now table captures (Checked ending) same inputs stops 
 
 -- What a command makes of its job and of its texts
 
-captures_made-le : (job : JobWords) (n : ℕ) → captures_made job n ≤ n
-captures_made-le (run r) n = omega arith
-captures_made-le (gen g) n = omega arith
-captures_made-le (check c) n = omega arith
-captures_made-le (firm f) n = omega arith
-
 module _ (job : JobWords) (old : Option Contents) (written : ToWrite) (w : AreToWrite job old written) where
   abbrev m : AreMade job w.table w.captures written
   m = w.made
 
   few_outputs : length m.texts.outputs ≤ 64
-  few_outputs =
-      let n = captures_made-le job (length w.captures) in
-      let few : length w.captures ≤ 64 = w.few in
-      omega (arith, n, m.count, few)
+  few_outputs = let few : length w.captures ≤ 64 = w.few in omega (arith, m.count, few)
 
   -- the texts that were made of the inputs
   made : IsMade job old m.texts

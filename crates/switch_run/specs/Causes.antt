@@ -9,7 +9,7 @@ use Rattle.journal_check.specs.Verdicts.{answer_under}
 use Rattle.job_files.specs.Checks.{HasAnswer, IsTooLong as IsTooLongToCheck}
 use Rattle.job_files.specs.declared.check_ending.CheckEnding.TheVariants as check_ending
 use Rattle.switch_words.specs.declared.job.GenJob.{GenJob}
-use Rattle.switch_words.specs.Reading.{JobWords, run, gen, check, firm, RunWords, CheckWords, FirmWords}
+use Rattle.switch_words.specs.Reading.{JobWords, run, gen, check, firm, RunWords, CheckWords}
 use Rattle.switch_plan.specs.declared.fault.PlanFault.{PlanFault}
 use Rattle.switch_plan.specs.Made.{made_table, made_captures}
 use Rattle.switch_plan.specs.Refusals.{IsRefusal, terms_of}
@@ -21,7 +21,6 @@ use Rattle.service_bound.specs.Waits.{longest_service_by}
 use Rattle.firm_rounds.specs.Decisions.{firm_decision}
 use Rattle.named_schedulers.specs.Named.{decision_named}
 use Rattle.run_laws.specs.Runs.{ports_of}
-use Rattle.run_laws.specs.Ends.{IsLengthUnder}
 use Rattle.run_laws.specs.Promises.{ArrivalsComeFirst, BusySlotsMatchUnder, CompletesUnder, DeliversNoOthersUnder, DeliversUnder, HasFewSlotsUnder}
 use Rattle.run_laws.specs.Promises.{ServesUnder, WaitsUnder, bound_of}
 use Rattle.run_laws.specs.InTime.{CompletesInTimeUnder, ServesInTimeUnder}
@@ -36,9 +35,8 @@ use Rattle.run_journals.specs.RunFiles.{journal_text_under}
 use Rattle.output_queued.specs.Lines.{ideal, ran}
 use Rattle.reference_run.specs.RunLines.{run_matches_under}
 use Rattle.reference_run.specs.Promises.{EndsNoLaterUnder, ExtraIsDelaysUnder}
-use Rattle.scheduler_runs.specs.FirmRuns.{FirmPromises}
 use Rattle.job_files.specs.Jobs.{ReadWords, reads_of, terms_in, input_name, IsInput, RunsSwitch}
-use Rattle.switch_run.specs.Switched.{IsLongJournal, IsLongPackets, IsPlanned, IsRunOf, JournalFits}
+use Rattle.switch_run.specs.Switched.{IsLongJournal, IsLongPackets, IsRunOf, JournalFits}
 use Rattle.job_files.specs.Inputs.{EarlierFit, IsTooLongFor, AreInputs}
 use Rattle.job_files.specs.OutputFiles.{output_name, report_name, journal_name, packets_name}
 use Rattle.switch_run.specs.Endings.{Command, Means}
@@ -158,12 +156,12 @@ scheduler_in (gen g) = g.scheduler
 scheduler_in (check c) = c.scheduler
 scheduler_in (firm f) = Firm
 
--- the run of a `run` or a `gen` job under its scheduler
+-- the run of a `run` or a `gen` job under its scheduler, and that of a `firm` job under FIRM
 abbrev pub IsRunFor : JobWords → List ℕ → List (List ℕ) → SwitchPlan → ℕ → Type 0
 IsRunFor (run r) table captures plan slots = IsRunOf (decision_named r.scheduler) r.settings table captures plan slots
 IsRunFor (gen g) table captures plan slots = IsRunOf (decision_named g.scheduler) g.settings table captures plan slots
 IsRunFor (check c) table captures plan slots = ⊥
-IsRunFor (firm f) table captures plan slots = ⊥
+IsRunFor (firm f) table captures plan slots = IsRunOf firm_decision f.settings table captures plan slots
 
 -- the run of the job that the words mean
 pub record IsRunBy (c : Command) (plan : SwitchPlan) (slots : ℕ) : Type 0 where
@@ -230,27 +228,9 @@ pub record RunPromises (name : SchedulerName) (plan : SwitchPlan) (slots : ℕ) 
   pub rows : RowsAddUp (decision_named name) plan slots
   pub bounds : ArrivalBounds (decision_named name) plan slots
 
--- the run under FIRM of the `firm` job that the words mean
-pub record IsFirmRunBy (c : Command) (plan : SwitchPlan) (slots : ℕ) : Type 0 where
-  pub job : FirmWords
-  pub table : List ℕ
-  pub captures : List (List ℕ)
-  pub words : c.job ≡ Some (firm job)
-  pub inputs : AreInputs (firm job) c.old table captures
-  pub planned : IsPlanned job.settings table captures plan
-  pub ends : IsLengthUnder firm_decision plan slots
-
--- a `run` or a `gen` job
-abbrev pub IsRunOrGen : JobWords → Type 0
-IsRunOrGen (run r) = Unit {0}
-IsRunOrGen (gen g) = Unit {0}
-IsRunOrGen (check c) = ⊥
-IsRunOrGen (firm f) = ⊥
-
--- At status 0 a `run` and a `gen` job have a run, and a `firm` job has one under FIRM.
-pub record HasRun (c : Command) (status : ℕ) : Type 0 where
-  pub switch : (job : JobWords) → c.job ≡ Some job → IsRunOrGen job → status ≡ 0 → (plan : SwitchPlan) × (slots : ℕ) × IsRunBy c plan slots
-  pub second : (job : FirmWords) → c.job ≡ Some (firm job) → status ≡ 0 → (plan : SwitchPlan) × (slots : ℕ) × IsFirmRunBy c plan slots
+-- at status 0 each job that runs a switch has a run
+abbrev pub HasRun : Command → ℕ → Type 0
+HasRun c status = (job : JobWords) → c.job ≡ Some job → RunsSwitch job → status ≡ 0 → (plan : SwitchPlan) × (slots : ℕ) × IsRunBy c plan slots
 
 -- The switch theorem: what a command answers with this status, that at status 0 no count of refused calls rose, of any kind
 -- or name, that a refused call ends it at the status of its kind, when each answer comes, that a job which was done has a run,
@@ -270,4 +250,3 @@ pub record SwitchTheorem (c : Command) (status : ℕ) : Type 0 where
   pub made_inputs : GenIsExact c status
   pub has_run : HasRun c status
   pub runs : (plan : SwitchPlan) (slots : ℕ) → (is : IsRunBy c plan slots) → RunPromises (scheduler_in is.job) plan slots
-  pub firm_runs : (plan : SwitchPlan) (slots : ℕ) → IsFirmRunBy c plan slots → FirmPromises plan slots

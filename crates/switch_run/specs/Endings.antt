@@ -91,20 +91,13 @@ pub record IsPacketsTooLong (job : JobWords) (seen : Option Contents) (size : �
   pub longer : IsLongPackets (decision_named words.scheduler) words.settings table captures size
   pub journal_fits : JournalFits words table captures
 
--- how many captures a job makes of those of its ports
-abbrev pub captures_made : JobWords → ℕ → ℕ
-captures_made (run r) ports = ports
-captures_made (gen g) ports = ports
-captures_made (check c) ports = 0
-captures_made (firm f) ports = 0
-
--- The job makes these texts of the bytes of the table and the captures.
+-- The job makes these texts of the bytes of the table and the captures, and of each capture one of an output.
 pub record IsMade (job : JobWords) (seen : Option Contents) (texts : Texts) : Type 0 where
   pub table : List ℕ
   pub captures : List (List ℕ)
   pub inputs : AreInputs job seen table captures
   pub outcome : IsJobOutcome job table captures (Ok texts)
-  pub count : length texts.outputs ≡ captures_made job (length captures)
+  pub count : length texts.outputs ≡ length captures
 
 -- All texts were made and written, in order, and nothing else changed.
 pub record IsDone (job : JobWords) (old new : Option Contents) : Type 0 where

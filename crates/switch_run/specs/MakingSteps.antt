@@ -36,7 +36,7 @@ use Rattle.switch_run.specs.declared.runs.NotedRun.{NotedRun}
 use Rattle.switch_run.specs.declared.runs.EndedRun.{EndedRun}
 use Rattle.switch_run.specs.declared.packets.PacketPieces.{PacketPieces}
 use Rattle.switch_run.specs.Switched.{IsPlanned, IsJobOutcome, IsLongJournal, IsLongPackets}
-use Rattle.switch_run.specs.Endings.{IsDone, Stops, captures_made}
+use Rattle.switch_run.specs.Endings.{IsDone, Stops}
 use Rattle.job_files.specs.declared.ending.Ending.{Ending}
 use Rattle.job_files.specs.declared.ending.Ending.TheVariants.{Done, Refused, JournalTooLong, PacketsTooLong, OutOfMemory}
 
@@ -95,7 +95,7 @@ to_write texts = record {
 pub record AreMade (job : JobWords) (table : List ℕ) (captures : List (List ℕ)) (written : ToWrite) : Type 0 where
   pub texts : Texts
   pub outcome : IsJobOutcome job table captures (Ok texts)
-  pub count : length texts.outputs ≡ captures_made job (length captures)
+  pub count : length texts.outputs ≡ length captures
   pub outputs_are : (r : RunWords) → job ≡ run r → written.outputs ≡ length texts.outputs
   pub before : (r : RunWords) → job ≡ run r → written.before ≡ packets_place (length texts.outputs) (is_some texts.journal)
   pub files_are : written.files ≡ files_of job texts

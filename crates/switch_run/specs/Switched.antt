@@ -4,7 +4,6 @@ use Rattle.std.specs.List.{range_with_len}
 use Rattle.pcap_records.specs.Output.{capture_text}
 use Rattle.forward_table.specs.declared.route_lines.RouteLine.{RouteLine}
 use Rattle.slot_report.specs.declared.summary.OutLine.{OutLine}
-use Rattle.slot_report.specs.declared.summary.Summary.{Summary}
 use Rattle.slot_report.specs.Lines.{lines_text}
 use Rattle.slot_report.specs.Texts.{summary_lines, report_bytes}
 use Rattle.journal_check.specs.declared.limits.TheConstants.{MAX_JOURNAL_BYTES}
@@ -15,6 +14,7 @@ use Rattle.switch_plan.specs.Traffic.{CaptureFile}
 use Rattle.switch_plan.specs.Refusals.{AreRead, terms_of, refusal_of, IsRefusal}
 use Rattle.switch_plan.specs.GoodPlans.{SwitchPlan, IsGood, IsBurst, IsCountable, IsPlanOf}
 use Rattle.eslip_rounds.specs.Schedulers.{Scheduler}
+use Rattle.firm_rounds.specs.Decisions.{firm_decision}
 use Rattle.named_schedulers.specs.Named.{decision_named}
 use Rattle.run_laws.specs.Runs.{ports_of, journal_under}
 use Rattle.run_laws.specs.Ends.{IsLengthUnder}
@@ -25,7 +25,6 @@ use Rattle.packet_times.specs.Rows.{packets_text_under}
 use Rattle.run_journals.specs.RunFiles.{journal_text_under}
 use Rattle.run_notes.specs.declared.wanted.Wanted.{Wanted}
 use Rattle.run_notes.specs.Told.{told_under}
-use Rattle.scheduler_runs.specs.FirmRuns.{IsFirmRun, HasShortWaits}
 use Rattle.job_files.specs.OutputFiles.{Texts}
 use Rattle.job_files.specs.Jobs.{terms_in}
 
@@ -33,7 +32,7 @@ use Rattle.job_files.specs.Jobs.{terms_in}
 abbrev pub wanted_by : RunWords → Wanted
 wanted_by r = record { slots = r.slots; journal = r.journal; reference = r.reference; queues = r.queues; packets = r.packets }
 
--- and that of a `gen` job
+-- and that of a `gen` and of a `firm` job
 abbrev pub nothing_wanted : Wanted
 nothing_wanted = record { slots = false; journal = false; reference = false; queues = false; packets = false }
 
@@ -94,27 +93,13 @@ pub record IsSwitched (scheduler : Scheduler) (settings : Settings) (wanted : Wa
   pub small : IfSome texts.journal (λ bytes. length bytes ≤ MAX_JOURNAL_BYTES)
   pub packets_small : settings.long ≡ false → IfSome texts.packets (λ bytes. length bytes ≤ MAX_PACKETS_BYTES)
 
--- the texts of a run under FIRM: its summary alone
-abbrev pub firm_texts : Summary → Texts
-firm_texts summary = record { outputs = []; report = []; journal = None; packets = None; summary = lines_text (summary_lines summary) }
-
--- A `firm` job runs under FIRM: the summary is that of the run of the job's table and captures. Where no admitted
--- packet of the best level of all is multicast, that level's longest wait is below N * N slots.
-pub record IsSwitchedByFirm (settings : Settings) (table : List ℕ) (files : List (List ℕ)) (texts : Texts) : Type 0 where
-  pub plan : SwitchPlan
-  pub summary : Summary
-  pub planned : IsPlanned settings table files plan
-  pub run : IsFirmRun plan summary
-  pub waits : HasShortWaits plan summary
-  pub are : texts ≡ firm_texts summary
-
 -- The texts that a job makes of a table and captures. Whether its run is made at a board or on one thread is nowhere in
 -- this: the bytes are the same.
 abbrev pub AreTexts : JobWords → List ℕ → List (List ℕ) → Texts → Type 0
 AreTexts (run r) table files texts = IsSwitched (decision_named r.scheduler) r.settings (wanted_by r) table files texts
 AreTexts (gen g) table files texts = IsSwitched (decision_named g.scheduler) g.settings nothing_wanted table files texts
 AreTexts (check c) table files texts = ⊥
-AreTexts (firm f) table files texts = IsSwitchedByFirm f.settings table files texts
+AreTexts (firm f) table files texts = IsSwitched firm_decision f.settings nothing_wanted table files texts
 
 -- what a job comes to: texts, or the first cause for which it is refused
 abbrev pub IsJobOutcome : JobWords → List ℕ → List (List ℕ) → Result Texts PlanFault → Type 0

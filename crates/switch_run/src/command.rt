@@ -179,9 +179,8 @@ fn end_of<R: Threads + Sync, F: Files, G: Gate + Sync>(
 /// in the order of departures, and there are as many as the summary has copies. The rows of the packets file tell as
 /// many packets of each state as the summary, and those of forwarded packets are as many as it has copies. Where each
 /// packet goes to one output and a slot has as many rounds as ports, or more, what arrives bounds how long cells wait and
-/// packets take, how many cells inputs hold and wait for outputs, the depth with which nothing is dropped, and the run's
-/// end. Of the run of a `firm` job, under FIRM, the same is promised of what is delivered, of arrivals and
-/// counts, of how soon a unicast queue is served and a multicast head completes, of how long waits are, and of its slots.
+/// packets take, how many cells inputs hold and wait for outputs, the depth with which nothing is dropped, and when the run
+/// ends.
 ///
 /// Where a count of refused reads rose the status is 3, and where one of what is written or of standard output did it is 6.
 /// At 2 to 5 and at 7 every file is as before. Each status but 0 gives one line to standard error; where a call

@@ -72,7 +72,6 @@ returns-clause-theorem g c d =
             rows = c.rows_add_up.ensures scheduler made.0 is.captures made.1.lines made.1.captures plan slots fair good made.1.planned ends;
             bounds = c.arrivals_bound_runs.ensures scheduler plan slots fair good ends;
           };
-      firm_runs = λ plan slots is. c.runs_are_as_promised.ensures plan slots is.planned.good is.ends;
     }
 
 pub returns-clause-own : goal.returns-clause-own

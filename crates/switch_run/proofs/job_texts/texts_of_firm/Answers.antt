@@ -1,13 +1,15 @@
 use Rattle.std.proofs.Common.{Some, arith, refl, string_bytes}
 use Rattle.std.proofs.lemmas.List.{length-map}
+use Rattle.firm_rounds.specs.Decisions.{firm_decision}
 use Rattle.switch_plan.specs.ReadingSteps.{bytes_of_files}
 use Rattle.switch_words.specs.Reading.{firm, firm_words}
 use Rattle.job_files.specs.Jobs.{firm_reads}
+use Rattle.job_files.proofs.Holding.{firm_is_no_run}
 use Rattle.job_files.proofs.InputFiles.{read_of_size}
 use Rattle.switch_run.specs.Endings.{is_own}
 use Rattle.switch_run.specs.MakingSteps.{to_write}
 use Rattle.std.proofs.lemmas.Result.{err_from_is_err_and}
-use Rattle.switch_run.proofs.RunTexts.{firm_made}
+use Rattle.switch_run.proofs.RunTexts.{summary_made}
 use Rattle.switch_run.proofs.OwnFiles.{firm_owns}
 use Rattle.switch_run.proofs.Stopping.{plan_stops, reading_stops}
 use Rattle.switch_run.proofs.job_texts.texts_of_firm.Goals as goal
@@ -50,14 +52,15 @@ returns-clause-made g c d =
     let texts = c.in_ok-summary_alone.field-0 in
     let names = c.args.job.now.inputs.items in
     let read = rw c.reads_of_firm.ensures.names at c.in_ok-inputs.ensures.read d in
+    let job = firm_words c.args.job.now in
     record {
       table = inputs.table.items;
       captures = files;
       inputs = read;
       few = omega (arith, read.captures_read.count, length-map names string_bytes, c.requires.inputs.most);
-      made = firm_made (firm_words c.args.job.now) inputs.table.items files c.in_ok-summary.summary
-          (to_write texts) c.in_ok-summary.ensures.ran
-          c.in_ok-summary_alone.ensures.files c.in_ok-summary_alone.ensures.summary;
+      made = summary_made firm_decision job.settings inputs.table.items files c.in_ok-summary.summary (firm job)
+          (to_write texts) c.in_ok-summary.ensures.ran (firm_is_no_run job) (λ t is. is) (λ t. c.in_ok-summary_alone.ensures.files)
+          c.in_ok-summary_alone.ensures.summary;
     }
 
 pub returns-in_err-inputs-clause-own : goal.returns-in_err-inputs-clause-own

@@ -1,9 +1,11 @@
 use Rattle.std.proofs.Common.{refl}
+use Rattle.named_schedulers.specs.Named.{decision_named}
 use Rattle.switch_plan.specs.ReadingSteps.{bytes_of_files}
 use Rattle.switch_words.specs.Reading.{gen}
 use Rattle.switch_run.specs.MakingSteps.{to_write}
 use Rattle.std.proofs.lemmas.Result.{err_from_is_err_and}
-use Rattle.switch_run.proofs.RunTexts.{gen_made}
+use Rattle.job_files.proofs.Holding.{gen_is_no_run}
+use Rattle.switch_run.proofs.RunTexts.{summary_made}
 use Rattle.switch_run.proofs.Stopping.{plan_stops}
 use Rattle.switch_run.proofs.job_texts.texts_of_gen.Goals as goal
 
@@ -18,11 +20,13 @@ pub returns-clause-made : goal.returns-clause-made
 returns-clause-made g c seen =
     let inputs = c.in_ok-inputs.inputs in
     let texts = c.in_ok-summary_alone.field-0 in
+    let job = c.args.job.now in
     record {
       table = inputs.table.items;
       captures = bytes_of_files inputs.captures;
       inputs = (c.in_ok-inputs.ensures.table, c.in_ok-inputs.ensures.captures);
       few = c.in_ok-inputs.ensures.size.ports.most;
-      made = gen_made c.args.job.now inputs.table.items (bytes_of_files inputs.captures) c.in_ok-summary.summary c.in_ok-summary.ensures.ran (to_write texts)
-          c.in_ok-summary_alone.ensures.files c.in_ok-summary_alone.ensures.summary;
+      made = summary_made (decision_named job.scheduler) job.settings inputs.table.items (bytes_of_files inputs.captures) c.in_ok-summary.summary (gen job)
+          (to_write texts) c.in_ok-summary.ensures.ran (gen_is_no_run job) (λ t is. is) (λ t. c.in_ok-summary_alone.ensures.files)
+          c.in_ok-summary_alone.ensures.summary;
     }
