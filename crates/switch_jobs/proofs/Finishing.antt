@@ -8,7 +8,6 @@ use Rattle.std.proofs.lemmas.Simd.{map-map}
 use Rattle.std_lemmas.proofs.Lists.{at_place}
 use Rattle.std_lemmas.proofs.MappedSums.{sum_of}
 use Rattle.rotating_pick.specs.declared.limits.TheConstants.{LEVELS}
-use Rattle.eslip_rounds.specs.Schedulers.{Scheduler}
 use Rattle.eslip_rounds.specs.Decisions.{decision_of}
 use Rattle.slot_histories.specs.Events.{Setup, decides}
 use Rattle.slot_histories.specs.Answers.{journal_of}
@@ -18,87 +17,25 @@ use Rattle.slot_board.specs.States.{StateValue, JournalValue}
 use Rattle.card_core.specs.declared.outcome.CardOut.{CardOut}
 use Rattle.card_core.specs.Plans.{Plan as CardPlan}
 use Rattle.card_worker.specs.declared.hands.Hand.{Hand}
-use Rattle.slot_report.specs.declared.summary.Summary.{Summary}
 use Rattle.switch_plan.specs.GoodPlans.{SwitchPlan, packets_in, IsGood, IsBurst}
 use Rattle.run_laws.specs.Runs.{ports_of, setup_for, run_journal}
 use Rattle.run_laws.specs.RunSteps.{posts_in, run_slot}
 use Rattle.run_laws.specs.Sums.{run_schedule}
 use Rattle.run_laws.specs.Crossings.{cells_under}
 use Rattle.switch_jobs.specs.declared.ready.Terms.{Terms}
-use Rattle.run_laws.specs.Outcomes.{messages_under, admitted_count, dropped_count, longest_under, summary_under, summary_of}
-use Rattle.run_laws.specs.Outcomes.{IsOutputUnder, IsOutput}
+use Rattle.run_laws.specs.Outcomes.{messages_under, admitted_count, dropped_count, over_ports, longest_under, summary_under, summary_of}
+use Rattle.run_laws.specs.Outcomes.{IsOutput}
 use Rattle.switch_jobs.specs.ReadinessSteps.{plan_with}
-use Rattle.switch_jobs.specs.JournalSteps.{noted_in, longest_in, HaveSums, summary_with, summary_in}
+use Rattle.switch_jobs.specs.JournalSteps.{noted_in, longest_in, HaveSums, summary_in}
 use Rattle.switch_jobs.specs.EndingSteps.{AreLeft, IsRunOf}
 use Rattle.switch_jobs.proofs.Adding.{sum_fits}
 use Rattle.switch_jobs.proofs.Leaving.{IsFew, few_of}
 use Rattle.run_laws.proofs.Limits.{slots_few}
 
--- the numbers of a run, one by one
-abbrev numbers_with : Terms → ℕ → ℕ → ℕ → ℕ → ℕ → ℕ → ℕ → ℕ → List ℕ → Summary
-numbers_with terms ports rounds slots packets dropped forwarded copies cells longest = record {
-  ports = ports;
-  rounds = rounds;
-  depth = terms.depth;
-  slots = slots;
-  packets = packets;
-  oversize = terms.oversize;
-  unrouted = terms.unrouted;
-  dropped = dropped;
-  forwarded = forwarded;
-  copies = copies;
-  cells = cells;
-  longest = longest;
-}
-
--- the numbers of a run are the same where each of them is
-same_numbers : (terms : Terms) (p p' r r' s s' k k' d d' f f' c c' w w' : ℕ) (l l' : List ℕ) → p ≡ p' → r ≡ r' → s ≡ s' → k ≡ k' → d ≡ d' → f ≡ f' → c ≡ c'
-    → w ≡ w' → l ≡ l'
-    → numbers_with terms p r s k d f c w l ≡ numbers_with terms p' r' s' k' d' f' c' w' l'
-same_numbers terms p p' r r' s s' k k' d d' f f' c c' w w' l l' ports rounds slots packets dropped forwarded copies cells longest = cc
-
 -- the waits of a run are those of its journal
 noted_same : (plan : SwitchPlan) (slots : ℕ) → map noted_in (run_journal plan slots) ≡ map noted_of (run_schedule plan slots)
 noted_same plan slots = map-map noted_in (run_slot plan) (range_with_len 0 slots)
     ∙ sym (map-map noted_of (decided_slot (setup_for plan) (posts_in plan)) (range_with_len 0 slots))
-
--- ---- the outputs of a run under any scheduler
-module _ (scheduler : Scheduler) (terms : Terms) (cards : List CardPlan) (good : IsGood (plan_with terms cards)) (slots : ℕ) (few : slots ≤ 262145)
-    (outputs : List CardOut) (ports_left : length outputs ≡ length cards) (output_is : (j : ℕ) (out : CardOut) → slice_get outputs j ≡ Some out
-    → IsOutputUnder scheduler (plan_with terms cards) slots j out) where
-  abbrev run_plan : SwitchPlan
-  run_plan = plan_with terms cards
-
-  few_outputs : length outputs ≤ 64
-  few_outputs = let most = good.size.most in omega arith
-
-  few_at : (j : ℕ) (out : CardOut) → slice_get outputs j ≡ Some out → IsFew scheduler run_plan slots j out
-  few_at j out at = few_of scheduler run_plan slots j out (output_is j out at)
-
-  pub sums-fit : HaveSums outputs
-  sums-fit =
-      record {
-        dropped = sum_fits (λ (out : CardOut). out.dropped) outputs few_outputs (λ j out at. let most = (few_at j out at).dropped in omega arith);
-        admitted = sum_fits (λ (out : CardOut). out.admitted) outputs few_outputs (λ j out at. let most = (few_at j out at).admitted in omega arith);
-        packets = sum_fits (λ (out : CardOut). out.packets) outputs few_outputs (λ j out at. let most = (few_at j out at).packets in omega arith);
-        cells = sum_fits (λ (out : CardOut). out.cells) outputs few_outputs (λ j out at. let most = (few_at j out at).cells in omega arith);
-      }
-
-  -- are summed up to the numbers of the run
-  pub summary-is : (ports rounds count : ℕ) (longest : List ℕ) → ports ≡ length cards → rounds ≡ terms.rounds → count ≡ slots
-      → longest ≡ map (longest_under scheduler run_plan slots) (range_with_len 0 LEVELS) → terms.packets ≡ sum_by length (packets_in run_plan)
-      → summary_with terms ports rounds count outputs longest ≡ summary_under scheduler run_plan slots
-  unfolding summary_under
-  summary-is ports rounds count longest size same slots_are waits packets =
-      let drops = sum_of (λ (out : CardOut). out.dropped) (dropped_count scheduler run_plan slots) outputs (ports_of run_plan) ports_left
-      (λ j out at. (output_is j out at).dropped) in
-      let admits = sum_of (λ (out : CardOut). out.admitted) (admitted_count scheduler run_plan slots) outputs (ports_of run_plan) ports_left
-      (λ j out at. (output_is j out at).admitted) in
-      let copies = sum_of (λ (out : CardOut). out.packets) (λ j. length (messages_under scheduler run_plan j slots)) outputs (ports_of run_plan) ports_left
-      (λ j out at. (output_is j out at).packets) in
-      let cells = sum_of (λ (out : CardOut). out.cells) (λ j. length (cells_under scheduler run_plan j slots)) outputs (ports_of run_plan) ports_left
-      (λ j out at. (output_is j out at).cells) in
-      same_numbers terms _ _ _ _ _ _ _ _ _ _ _ _ _ _ _ _ _ _ size same slots_are packets drops admits copies cells waits
 
 module _ (terms : Terms) (cards : List CardPlan) (good : IsGood (plan_with terms cards)) (burst : IsBurst (plan_with terms cards))
     (state : StateValue) (hands : List Hand) (is : IsRunOf (plan_with terms cards) state hands) where
@@ -126,11 +63,28 @@ module _ (terms : Terms) (cards : List CardPlan) (good : IsGood (plan_with terms
         let (hand, mine) = at_place hands j (omega arith) in
         is.outputs j hand out mine (left.each j hand out mine at)
 
-    pub sums_fit : HaveSums outputs
-    sums_fit = sums-fit decision_of terms cards good slots few_slots outputs ports_left output_is
+    few_at : (j : ℕ) (out : CardOut) → slice_get outputs j ≡ Some out → IsFew decision_of plan slots j out
+    few_at j out at = few_of decision_of plan slots j out (output_is j out at)
 
+    pub sums_fit : HaveSums outputs
+    sums_fit =
+        let few = few_slots in
+        let ports : length outputs ≤ 64 = let count = ports_left in let most = good.size.most in omega arith in
+        record {
+          dropped = sum_fits (λ (out : CardOut). out.dropped) outputs ports (λ j out at. let most = (few_at j out at).dropped in omega arith);
+          admitted = sum_fits (λ (out : CardOut). out.admitted) outputs ports (λ j out at. let most = (few_at j out at).admitted in omega arith);
+          packets = sum_fits (λ (out : CardOut). out.packets) outputs ports (λ j out at. let most = (few_at j out at).packets in omega arith);
+          cells = sum_fits (λ (out : CardOut). out.cells) outputs ports (λ j out at. let most = (few_at j out at).cells in omega arith);
+        }
+
+    -- a sum over the outputs is that over the ports of what each of them has
+    sum_is : (f : CardOut → ℕ) (g : ℕ → ℕ) → ((j : ℕ) (out : CardOut) → IsOutput plan slots j out → f out ≡ g j) → sum_by f outputs ≡ over_ports plan g
+    sum_is f g same = sum_of f g outputs (ports_of plan) ports_left (λ j out at. same j out (output_is j out at))
+
+    -- the outputs and the journal are summed up to the numbers of the run
     pub summary_is : (journal : JournalValue) → journal.setup ≡ state.setup → journal.slots ≡ journal_of state.setup state.events
         → terms.packets ≡ sum_by length (packets_in plan) → summary_in terms journal outputs ≡ summary_of plan slots
+    unfolding summary_under
     summary_is journal same decided packets =
         let ports : journal.setup.ports ≡ ports_of plan = ap (λ (s : Setup). s.ports) (same ∙ is.setup) in
         let rounds : journal.setup.rounds ≡ terms.rounds = ap (λ (s : Setup). s.rounds) (same ∙ is.setup) in
@@ -140,5 +94,8 @@ module _ (terms : Terms) (cards : List CardPlan) (good : IsGood (plan_with terms
         ap (λ n. longest_in n journal.slots) ports
         ∙ (ap (longest_in (ports_of plan)) journal_same
         ∙ ap (λ (noted : List NotedSlot). map (λ level. longest_wait (ports_of plan) level noted) (range_with_len 0 LEVELS)) (noted_same plan slots)) in
-        summary-is decision_of terms cards good slots few_slots outputs ports_left output_is journal.setup.ports journal.setup.rounds (length journal.slots)
-        (longest_in journal.setup.ports journal.slots) ports rounds count waits packets
+        let drops = sum_is (λ (out : CardOut). out.dropped) (dropped_count decision_of plan slots) (λ j out o. o.dropped) in
+        let admits = sum_is (λ (out : CardOut). out.admitted) (admitted_count decision_of plan slots) (λ j out o. o.admitted) in
+        let copies = sum_is (λ (out : CardOut). out.packets) (λ j. length (messages_under decision_of plan j slots)) (λ j out o. o.packets) in
+        let cells = sum_is (λ (out : CardOut). out.cells) (λ j. length (cells_under decision_of plan j slots)) (λ j out o. o.cells) in
+        cc

@@ -80,16 +80,6 @@ HaveRoomFor-set groups p group new room found same have place g at =
     ]
 
 -- ---- groups that were driven
--- each by its place
-pub driven_at : (board : TurnValue Event) (patience : ℕ) (olds news : List Group)
-    → ((p : ℕ) (d : Group) → p < length olds → IsDrivenGroup board patience (get_or olds p d) (get_or news p d))
-    → (p : ℕ) (old new : Group) → slice_get olds p ≡ Some old → slice_get news p ≡ Some new → IsDrivenGroup board patience old new
-driven_at board patience olds news driven p old new at too =
-    let was : get_or olds p old ≡ old = get_or_from_slice_get olds p old old at in
-    let is : get_or news p old ≡ new = get_or_from_slice_get news p new old too in
-    subst (λ (x : Group). IsDrivenGroup board patience old x) is
-    (subst (λ (x : Group). IsDrivenGroup board patience x (get_or news p old)) was (driven p old (slice_get_within olds p old at)))
-
 -- a member that is among them now was one of the same card before
 pub record WasAmong (patience : ℕ) (olds : List Group) (new : Member) : Type 0 where
   pub old : Member
@@ -98,12 +88,20 @@ pub record WasAmong (patience : ℕ) (olds : List Group) (new : Member) : Type 0
   pub waited : is_due new.seat ≡ true → refusals new.seat ≡ refusals old.seat + patience
 
 module _ (board : TurnValue Event) (patience : ℕ) (olds news : List Group) (long : length news ≡ length olds)
-    (driven : (p : ℕ) (old new : Group) → slice_get olds p ≡ Some old → slice_get news p ≡ Some new → IsDrivenGroup board patience old new) where
+    (driven : (p : ℕ) (d : Group) → p < length olds → IsDrivenGroup board patience (get_or olds p d) (get_or news p d)) where
+  -- each by its place
+  pub driven_at : (p : ℕ) (old new : Group) → slice_get olds p ≡ Some old → slice_get news p ≡ Some new → IsDrivenGroup board patience old new
+  driven_at p old new at too =
+      let was : get_or olds p old ≡ old = get_or_from_slice_get olds p old old at in
+      let is : get_or news p old ≡ new = get_or_from_slice_get news p new old too in
+      subst (λ (x : Group). IsDrivenGroup board patience old x) is
+      (subst (λ (x : Group). IsDrivenGroup board patience x (get_or news p old)) was (driven p old (slice_get_within olds p old at)))
+
   was_among : (m : Member) → IsAmong m news → WasAmong patience olds m
   was_among m among =
       let inside : among.place < length news = slice_get_within news among.place among.group among.found in
       let old = at_place olds among.place (omega arith) in
-      let passes = (driven among.place old.0 among.group old.1 among.found).passes in
+      let passes = (driven_at among.place old.0 among.group old.1 among.found).passes in
       let count = passes.count in
       let within : among.within < length among.group.members.items = slice_get_within among.group.members.items among.within m among.at in
       let was = at_place old.0.members.items among.within (omega arith) in

@@ -3,7 +3,7 @@ use Rattle.std.proofs.lemmas.List.{length-take-le, length-drop, drop-drop}
 use Rattle.std.proofs.lemmas.List.Sums.{sum_by_more, sum_by_more_le}
 use Rattle.pcap_records.specs.Output.{record_text}
 use Rattle.pcap_records.proofs.Output.{length-record_text}
-use Rattle.switch_jobs.proofs.Records.{records_more, rest_stays}
+use Rattle.switch_jobs.proofs.Records.{IsTurned, parts_of, records_more}
 use Rattle.switch_jobs.proofs.captures.turn_messages.Goals as goal
 use borrow.Rule.Slice.PartMut.{put_mid}
 
@@ -30,14 +30,17 @@ loop-len-preserved c =
     let text = record_text c.args.nano message in
     let wide : length text ≡ length message = length-record_text c.args.nano message (omega arith) in
     let new = put_mid at.start size old c.turn_message.new.message in
-    let turned : new ≡ take at.start old ++ (text ++ drop to old) =
-    ap (λ xs. take at.start old ++ (xs ++ drop size (drop at.start old))) c.turn_message.ensures
-    ∙ ap (λ xs. take at.start old ++ (text ++ xs)) (drop-drop size at.start old ∙ ap (λ n. drop n old) (omega arith)) in
+    let turned : IsTurned old new text at.start to =
+    record {
+      room = omega arith;
+      end = omega arith;
+      whole = ap (λ xs. take at.start old ++ (xs ++ drop size (drop at.start old))) c.turn_message.ensures
+          ∙ ap (λ xs. take at.start old ++ (text ++ xs)) (drop-drop size at.start old ∙ ap (λ n. drop n old) (omega arith));
+    } in
     let later : drop to old ≡ drop to body = sym (drop-drop len at.start old) ∙ ap (drop len) at.invariant.rest ∙ drop-drop len at.start body in
     record {
       start = omega arith;
-      rest = rest_stays old new text at.start to (omega arith) (omega arith) turned ∙ later;
+      rest = (parts_of old new text at.start to turned).1 ∙ later;
       text = λ messages are lengths.
-          records_more c.args.nano body lens messages are lengths old new message k at.start to inside start part header (omega arith) (omega arith)
-          (at.invariant.text messages are lengths) turned;
+          records_more c.args.nano body lens messages are lengths old new message k at.start to inside start part turned (at.invariant.text messages are lengths);
     }

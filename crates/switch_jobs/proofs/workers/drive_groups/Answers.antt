@@ -23,20 +23,15 @@ returns-clause-groups g c =
     let olds = c.args.groups.now in
     let news = c.drive_each.new.groups in
     let patience = c.args.patience in
-    c.driven_groups_stay.ensures board board.seats patience olds news c.requires.groups c.drive_each.auto.groups (λ p old new at too.
-    let driven : IsDrivenGroup board patience old new = driven_at board patience olds news c.drive_each.ensures p old new at too in
+    let long = c.drive_each.auto.groups in
+    c.driven_groups_stay.ensures board board.seats patience olds news c.requires.groups long (λ p old new at too.
+    let driven : IsDrivenGroup board patience old new = driven_at board patience olds news long c.drive_each.ensures p old new at too in
     (driven.made, driven.passes))
 
 pub returns-clause-planned : goal.returns-clause-planned
 returns-clause-planned g c =
-    let board = c.args.board.now in
-    let olds = c.args.groups.now in
-    let news = c.drive_each.new.groups in
-    ArePlanned-driven board c.args.patience olds news c.drive_each.auto.groups (driven_at board c.args.patience olds news c.drive_each.ensures)
+    ArePlanned-driven c.args.board.now c.args.patience c.args.groups.now c.drive_each.new.groups c.drive_each.auto.groups c.drive_each.ensures
 
 pub returns-clause-waited : goal.returns-clause-waited
 returns-clause-waited g c =
-    let board = c.args.board.now in
-    let olds = c.args.groups.now in
-    let news = c.drive_each.new.groups in
-    HaveWaited-driven board c.args.patience olds news c.drive_each.auto.groups (driven_at board c.args.patience olds news c.drive_each.ensures)
+    HaveWaited-driven c.args.board.now c.args.patience c.args.groups.now c.drive_each.new.groups c.drive_each.auto.groups c.drive_each.ensures
