@@ -5,13 +5,13 @@ use Rattle.outside.specs.Contents.{Contents}
 use Rattle.switch_words.specs.Reading.{JobWords, run, check, RunWords, CheckWords}
 use Rattle.named_schedulers.specs.Named.{decision_named}
 use Rattle.switch_plan.specs.declared.fault.PlanFault.{PlanFault}
-use Rattle.switch_plan.specs.Refusals.{IsRefusal, terms_of}
-use Rattle.switch_run.specs.Causes.{Answers, JournalTooLongIsExact, PacketsTooLongIsExact, RefusalIsExact}
-use Rattle.switch_run.specs.Endings.{Command, IsFirstTooLong, IsJournalTooLong, IsPacketsTooLong}
+use Rattle.switch_plan.specs.Refusals.{IsRefusal}
+use Rattle.switch_run.specs.Causes.{Answers, AnswersUnlessOut, IsReadable, JournalTooLongIsExact, PacketsTooLongIsExact, RefusalIsExact}
+use Rattle.switch_run.specs.Endings.{Command, IsFirstTooLong, IsJournalTooLong, IsMade, IsPacketsTooLong, IsRefused}
 use Rattle.job_files.specs.Inputs.{AreInputs}
 use Rattle.job_files.specs.Jobs.{terms_in}
 use Rattle.job_files.specs.OutputFiles.{Texts}
-use Rattle.switch_run.specs.Switched.{AreTexts, IsLongJournal, IsLongPackets, JournalFits, wanted_by}
+use Rattle.switch_run.specs.Switched.{IsLongJournal, IsLongPackets, JournalFits, wanted_by}
 use Rattle.job_files.specs.declared.ending.Ending.{Ending}
 use Rattle.job_files.specs.declared.ending.Ending.TheVariants.{Done, Usage, ReadFault, TooLong, Refused, JournalTooLong, PacketsTooLong, OutOfMemory}
 use Rattle.job_files.specs.declared.ending.Ending.TheVariants.{WriteFault, Checked}
@@ -19,34 +19,39 @@ use Rattle.job_files.specs.declared.inputs.InputFile.{InputFile}
 use Rattle.switch_plan.proofs.Refused.{refusal_once}
 use Rattle.switch_run.proofs.OneOutcome.{not_long, not_long_packets, not_made}
 use Rattle.switch_run.proofs.OnePlan.{long_not_made, long_once, long_packets_not_made, long_packets_once}
-use Rattle.switch_run.proofs.Answering.{long_of_inputs, made_of, no_inputs, no_job, no_read_fault, same_inputs, stops_here}
+use Rattle.switch_run.proofs.Answering.{AreMadeOf, long_of_inputs, made_of, no_inputs, no_job, no_read_fault, same_inputs, stops_here}
+
+-- texts that were made, and the inputs that they were made of
+texts_of : (job : JobWords) (c : Contents) (texts : Texts) → IsMade job (Some c) texts → AreMadeOf job c texts
+texts_of job c texts made = record { table = made.table; captures = made.captures; inputs = made.inputs; outcome = made.outcome }
+
+-- what is said of a table and captures is said of the same ones
+elsewhere : (P : List ℕ → List (List ℕ) → Type 0) (t u : List ℕ) (xs ys : List (List ℕ)) → (t ≡ u) × (xs ≡ ys) → P t xs → P u ys
+elsewhere P t u xs ys same here = subst (λ (bytes : List ℕ). P bytes ys) same.0 (subst (λ (files : List (List ℕ)). P t files) same.1 here)
+
+-- whatever was read of the inputs of a job that is refused is refused
+refused_at : (job : JobWords) (c : Contents) (fault : PlanFault) → IsRefused job (Some c) fault → (table : List ℕ) (captures : List (List ℕ))
+    → AreInputs job (Some c) table captures → IsRefusal (terms_in job) table captures fault
+refused_at job c fault refused table captures inputs =
+    elsewhere (λ t xs. IsRefusal (terms_in job) t xs fault) refused.table table refused.captures captures
+    (same_inputs job c refused.table table refused.captures captures refused.inputs inputs) refused.outcome
 
 -- what is refused makes no texts
-nothing_made : (job : JobWords) (c : Contents) (t u : List ℕ) (xs ys : List (List ℕ)) (fault : PlanFault) (texts : Texts) → AreInputs job (Some c) t xs
-    → AreInputs job (Some c) u ys
-    → IsRefusal (terms_in job) t xs fault → AreTexts job u ys texts → ⊥
-nothing_made job c t u xs ys fault texts a b refused outcome =
-    let same = same_inputs job c t u xs ys a b in
-    not_made job u ys fault texts
-    (subst (λ (bytes : List ℕ). IsRefusal (terms_in job) bytes ys fault) same.0
-    (subst (λ (files : List (List ℕ)). IsRefusal (terms_in job) t files fault) same.1 refused)) outcome
+nothing_made : (job : JobWords) (c : Contents) (fault : PlanFault) (texts : Texts) → IsRefused job (Some c) fault → AreMadeOf job c texts → ⊥
+nothing_made job c fault texts refused made =
+    not_made job made.table made.captures fault texts (refused_at job c fault refused made.table made.captures made.inputs) made.outcome
 
 -- what is refused is refused for one cause
-same_cause : (job : JobWords) (c : Contents) (t u : List ℕ) (xs ys : List (List ℕ)) (fault found : PlanFault) → AreInputs job (Some c) t xs
-    → AreInputs job (Some c) u ys
-    → IsRefusal (terms_in job) t xs fault → IsRefusal (terms_in job) u ys found → found ≡ fault
-same_cause job c t u xs ys fault found a b refused outcome =
-    let same = same_inputs job c t u xs ys a b in
-    refusal_once (terms_in job) u ys found fault outcome
-    (subst (λ (bytes : List ℕ). IsRefusal (terms_in job) bytes ys fault) same.0
-    (subst (λ (files : List (List ℕ)). IsRefusal (terms_in job) t files fault) same.1 refused))
+same_cause : (job : JobWords) (c : Contents) (fault found : PlanFault) → IsRefused job (Some c) fault → IsRefused job (Some c) found → found ≡ fault
+same_cause job c fault found refused other =
+    refusal_once (terms_in job) other.table other.captures found fault other.outcome (refused_at job c fault refused other.table other.captures other.inputs)
 
 -- a file that was read is not too long
 long_input : (job : JobWords) (contents : Contents) (table : List ℕ) (captures : List (List ℕ)) (input : InputFile)
     → AreInputs job (Some contents) table captures → IsFirstTooLong job (Some contents) input → ⊥
 long_input job contents table captures input inputs f = long_of_inputs job f.words contents table captures input f.reads inputs f.known f.longer
 
--- what is refused has no journal that is too long
+-- the journal of a run of these words is too long
 record IsLongIn (r : RunWords) (contents : Contents) (size : ℕ) : Type 0 where
   pub table : List ℕ
   pub captures : List (List ℕ)
@@ -69,25 +74,17 @@ long_of_run r contents size j = subst (λ (s : RunWords). IsLongIn s contents si
 wanted_long : (r : RunWords) (contents : Contents) (size : ℕ) → IsJournalTooLong (run r) (Some contents) size → IsLongIn r contents size × (r.journal ≡ true)
 wanted_long r contents size j = (long_of_run r contents size j, ap (λ (w : RunWords). w.journal) (sym (same_run r j.words j.is_run)) ∙ j.wanted)
 
-refused_is_not_long : (r : RunWords) (c : Contents) (t u : List ℕ) (xs ys : List (List ℕ)) (fault : PlanFault) (size : ℕ) → AreInputs (run r) (Some c) t xs
-    → AreInputs (run r) (Some c) u ys
-    → IsRefusal (terms_of r.settings) t xs fault → IsLongJournal (decision_named r.scheduler) r.settings u ys size → ⊥
-refused_is_not_long r c t u xs ys fault size a b refused long =
-    let same = same_inputs (run r) c t u xs ys a b in
-    not_long (decision_named r.scheduler) r.settings u ys fault size
-    (subst (λ (bytes : List ℕ). IsRefusal (terms_of r.settings) bytes ys fault) same.0
-    (subst (λ (files : List (List ℕ)). IsRefusal (terms_of r.settings) t files fault) same.1 refused)) long
+-- what is refused has no journal that is too long
+refused_is_not_long : (r : RunWords) (c : Contents) (fault : PlanFault) (size : ℕ) → IsRefused (run r) (Some c) fault → IsLongIn r c size → ⊥
+refused_is_not_long r c fault size refused long =
+    not_long (decision_named r.scheduler) r.settings long.table long.captures fault size
+    (refused_at (run r) c fault refused long.table long.captures long.inputs) long.longer
 
-refused_or_long : (job : JobWords) (c : Contents) (table : List ℕ) (captures : List (List ℕ)) (fault : PlanFault) (size : ℕ)
-    → AreInputs job (Some c) table captures → IsRefusal (terms_in job) table captures fault
-    → IsJournalTooLong job (Some c) size → ⊥
-refused_or_long job c table captures fault size inputs refused j =
-    let long = long_in job c size j in
-    refused_is_not_long j.words c table long.table captures long.captures fault size
-    (subst (λ (n : JobWords). AreInputs n (Some c) table captures) j.is_run inputs)
-    long.inputs (subst (λ (n : JobWords). IsRefusal (terms_in n) table captures fault) j.is_run refused) long.longer
+refused_or_long : (job : JobWords) (c : Contents) (fault : PlanFault) (size : ℕ) → IsRefused job (Some c) fault → IsJournalTooLong job (Some c) size → ⊥
+refused_or_long job c fault size refused j =
+    refused_is_not_long j.words c fault size (subst (λ (n : JobWords). IsRefused n (Some c) fault) j.is_run refused) (long_in job c size j)
 
--- nor a packets file that is too long
+-- so is its packets file, and its journal is not
 record IsLongPacketsIn (r : RunWords) (contents : Contents) (size : ℕ) : Type 0 where
   pub table : List ℕ
   pub captures : List (List ℕ)
@@ -108,150 +105,145 @@ packets_of_run : (r : RunWords) (contents : Contents) (size : ℕ) → IsPackets
 packets_of_run r contents size p =
     subst (λ (s : RunWords). IsLongPacketsIn s contents size) (same_run r p.words p.is_run) (packets_in (run r) contents size p)
 
--- what is too long of the same files
-packets_elsewhere : (r : RunWords) (c : Contents) (t u : List ℕ) (xs ys : List (List ℕ)) (size : ℕ) → AreInputs (run r) (Some c) t xs
-    → AreInputs (run r) (Some c) u ys
-    → IsLongPackets (decision_named r.scheduler) r.settings t xs size → IsLongPackets (decision_named r.scheduler) r.settings u ys size
-packets_elsewhere r c t u xs ys size a b long =
-    let same = same_inputs (run r) c t u xs ys a b in
-    subst (λ (bytes : List ℕ). IsLongPackets (decision_named r.scheduler) r.settings bytes ys size) same.0
-    (subst (λ (files : List (List ℕ)). IsLongPackets (decision_named r.scheduler) r.settings t files size) same.1 long)
+-- what is too long of the inputs is too long of whatever was read of them
+packets_at : (r : RunWords) (c : Contents) (size : ℕ) → IsLongPacketsIn r c size → (table : List ℕ) (captures : List (List ℕ))
+    → AreInputs (run r) (Some c) table captures → IsLongPackets (decision_named r.scheduler) r.settings table captures size
+packets_at r c size long table captures inputs =
+    elsewhere (λ t xs. IsLongPackets (decision_named r.scheduler) r.settings t xs size) long.table table long.captures captures
+    (same_inputs (run r) c long.table table long.captures captures long.inputs inputs) long.longer
 
-long_elsewhere : (r : RunWords) (c : Contents) (t u : List ℕ) (xs ys : List (List ℕ)) (size : ℕ) → AreInputs (run r) (Some c) t xs
-    → AreInputs (run r) (Some c) u ys
-    → IsLongJournal (decision_named r.scheduler) r.settings t xs size → IsLongJournal (decision_named r.scheduler) r.settings u ys size
-long_elsewhere r c t u xs ys size a b long =
-    let same = same_inputs (run r) c t u xs ys a b in
-    subst (λ (bytes : List ℕ). IsLongJournal (decision_named r.scheduler) r.settings bytes ys size) same.0
-    (subst (λ (files : List (List ℕ)). IsLongJournal (decision_named r.scheduler) r.settings t files size) same.1 long)
+long_at : (r : RunWords) (c : Contents) (size : ℕ) → IsLongIn r c size → (table : List ℕ) (captures : List (List ℕ))
+    → AreInputs (run r) (Some c) table captures → IsLongJournal (decision_named r.scheduler) r.settings table captures size
+long_at r c size long table captures inputs =
+    elsewhere (λ t xs. IsLongJournal (decision_named r.scheduler) r.settings t xs size) long.table table long.captures captures
+    (same_inputs (run r) c long.table table long.captures captures long.inputs inputs) long.longer
 
-refused_is_not_long_packets : (r : RunWords) (c : Contents) (t u : List ℕ) (xs ys : List (List ℕ)) (fault : PlanFault) (size : ℕ)
-    → AreInputs (run r) (Some c) t xs → AreInputs (run r) (Some c) u ys
-    → IsRefusal (terms_of r.settings) t xs fault → IsLongPackets (decision_named r.scheduler) r.settings u ys size → ⊥
-refused_is_not_long_packets r c t u xs ys fault size a b refused long =
-    not_long_packets (decision_named r.scheduler) r.settings t xs fault size refused (packets_elsewhere r c u t ys xs size b a long)
+-- what is refused has no packets file that is too long
+refused_is_not_long_packets : (r : RunWords) (c : Contents) (fault : PlanFault) (size : ℕ) → IsRefused (run r) (Some c) fault → IsLongPacketsIn r c size → ⊥
+refused_is_not_long_packets r c fault size refused long =
+    not_long_packets (decision_named r.scheduler) r.settings long.table long.captures fault size
+    (refused_at (run r) c fault refused long.table long.captures long.inputs) long.longer
 
-refused_or_long_packets : (job : JobWords) (c : Contents) (table : List ℕ) (captures : List (List ℕ)) (fault : PlanFault) (size : ℕ)
-    → AreInputs job (Some c) table captures
-    → IsRefusal (terms_in job) table captures fault → IsPacketsTooLong job (Some c) size → ⊥
-refused_or_long_packets job c table captures fault size inputs refused p =
-    let long = packets_in job c size p in
-    refused_is_not_long_packets p.words c table long.table captures long.captures fault size
-    (subst (λ (n : JobWords). AreInputs n (Some c) table captures) p.is_run inputs)
-    long.inputs (subst (λ (n : JobWords). IsRefusal (terms_in n) table captures fault) p.is_run refused) long.longer
+refused_or_long_packets : (job : JobWords) (c : Contents) (fault : PlanFault) (size : ℕ) → IsRefused job (Some c) fault
+    → IsPacketsTooLong job (Some c) size → ⊥
+refused_or_long_packets job c fault size refused p =
+    refused_is_not_long_packets p.words c fault size (subst (λ (n : JobWords). IsRefused n (Some c) fault) p.is_run refused) (packets_in job c size p)
+
+module _ (c : Command) (status : ℕ) (job : JobWords) (contents : Contents) (fault : PlanFault) (read : IsReadable c job contents)
+    (refused : IsRefused job (Some contents) fault) where
+  refused_answer : (ending : Ending) → Answers c status ending → AnswersUnlessOut c status (Refused fault)
+  refused_answer Done a =
+      absurd (nothing_made job contents fault a.1.2.texts refused (made_of c job a.1.0 contents a.1.2.texts read a.1.1 a.1.2.made))
+  refused_answer Usage a = absurd (no_job c job read.words a.1.0)
+  refused_answer (ReadFault input) a = absurd (no_read_fault c job contents input read a.1)
+  refused_answer (TooLong input) a =
+      let stops = stops_here c job contents (TooLong input) read.words read.seen a.1 in
+      absurd (long_input job contents refused.table refused.captures input refused.inputs stops.0)
+  refused_answer (Refused found) a =
+      let stops = stops_here c job contents (Refused found) read.words read.seen a.1 in
+      inl (subst (λ (f : PlanFault). Answers c status (Refused f)) (same_cause job contents fault found refused stops.0) a)
+  refused_answer (JournalTooLong size) a =
+      let stops = stops_here c job contents (JournalTooLong size) read.words read.seen a.1 in
+      absurd (refused_or_long job contents fault size refused stops.0)
+  refused_answer (PacketsTooLong size) a =
+      let stops = stops_here c job contents (PacketsTooLong size) read.words read.seen a.1 in
+      absurd (refused_or_long_packets job contents fault size refused stops.0)
+  refused_answer OutOfMemory a = inr a
+  refused_answer (WriteFault written) a =
+      let stops = stops_here c job contents (WriteFault written) read.words read.seen a.1 in
+      absurd (nothing_made job contents fault stops.texts refused (texts_of job contents stops.texts stops.made))
+  refused_answer (Checked e) a =
+      let stops = stops_here c job contents (Checked e) read.words read.seen a.1 in
+      absurd (no_inputs job stops.words (Some contents) refused.table refused.captures stops.is_check refused.inputs)
 
 pub refusal_exact : (c : Command) (status : ℕ) (ending : Ending) → Answers c status ending → RefusalIsExact c status
-refusal_exact c status Done a job contents table captures fault read inputs refused =
-    let m = made_of c job a.1.0 contents a.1.2.texts read a.1.1 a.1.2.made in
-    absurd (nothing_made job contents table m.table captures m.captures fault a.1.2.texts inputs m.inputs refused m.outcome)
-refusal_exact c status Usage a job contents table captures fault read inputs refused = absurd (no_job c job read.words a.1.0)
-refusal_exact c status (ReadFault input) a job contents table captures fault read inputs refused = absurd (no_read_fault c job contents input read a.1)
-refusal_exact c status (TooLong input) a job contents table captures fault read inputs refused =
-    let stops = stops_here c job contents (TooLong input) read.words read.seen a.1 in
-    absurd (long_input job contents table captures input inputs stops.0)
-refusal_exact c status (Refused found) a job contents table captures fault read inputs refused =
-    let stops = stops_here c job contents (Refused found) read.words read.seen a.1 in
-    let same = same_cause job contents table stops.0.table captures stops.0.captures fault found inputs stops.0.inputs refused stops.0.outcome in
-    inl (subst (λ (f : PlanFault). Answers c status (Refused f)) same a)
-refusal_exact c status (JournalTooLong size) a job contents table captures fault read inputs refused =
-    let stops = stops_here c job contents (JournalTooLong size) read.words read.seen a.1 in
-    absurd (refused_or_long job contents table captures fault size inputs refused stops.0)
-refusal_exact c status (PacketsTooLong size) a job contents table captures fault read inputs refused =
-    let stops = stops_here c job contents (PacketsTooLong size) read.words read.seen a.1 in
-    absurd (refused_or_long_packets job contents table captures fault size inputs refused stops.0)
-refusal_exact c status OutOfMemory a job contents table captures fault read inputs refused = inr a
-refusal_exact c status (WriteFault written) a job contents table captures fault read inputs refused =
-    let stops = stops_here c job contents (WriteFault written) read.words read.seen a.1 in
-    absurd (nothing_made job contents table stops.made.table captures stops.made.captures fault stops.texts inputs stops.made.inputs refused stops.made.outcome)
-refusal_exact c status (Checked e) a job contents table captures fault read inputs refused =
-    let stops = stops_here c job contents (Checked e) read.words read.seen a.1 in
-    absurd (no_inputs job stops.words (Some contents) table captures stops.is_check inputs)
+refusal_exact c status ending a job contents table captures fault read inputs refused =
+    refused_answer c status job contents fault read (record { table = table; captures = captures; inputs = inputs; outcome = refused }) ending a
 
 -- a journal that is wanted and too long was not made
-long_is_not_made : (r : RunWords) (c : Contents) (t u : List ℕ) (xs ys : List (List ℕ)) (texts : Texts) (size : ℕ) → r.journal ≡ true
-    → AreInputs (run r) (Some c) t xs → AreInputs (run r) (Some c) u ys
-    → AreTexts (run r) t xs texts → IsLongJournal (decision_named r.scheduler) r.settings u ys size → ⊥
-long_is_not_made r c t u xs ys texts size wanted a b outcome long =
-    let same = same_inputs (run r) c t u xs ys a b in
-    long_not_made (decision_named r.scheduler) r.settings u ys (wanted_by r) texts size wanted
-    (subst (λ (bytes : List ℕ). AreTexts (run r) bytes ys texts) same.0 (subst (λ (files : List (List ℕ)). AreTexts (run r) t files texts) same.1 outcome)) long
+long_is_not_made : (r : RunWords) (c : Contents) (texts : Texts) (size : ℕ) → r.journal ≡ true → AreMadeOf (run r) c texts → IsLongIn r c size → ⊥
+long_is_not_made r c texts size wanted made long =
+    long_not_made (decision_named r.scheduler) r.settings made.table made.captures (wanted_by r) texts size wanted made.outcome
+    (long_at r c size long made.table made.captures made.inputs)
 
-same_size : (r : RunWords) (c : Contents) (t u : List ℕ) (xs ys : List (List ℕ)) (a b : ℕ) → AreInputs (run r) (Some c) t xs → AreInputs (run r) (Some c) u ys
-    → IsLongJournal (decision_named r.scheduler) r.settings t xs a → IsLongJournal (decision_named r.scheduler) r.settings u ys b → a ≡ b
-same_size r c t u xs ys a b p q long other =
-    let same = same_inputs (run r) c t u xs ys p q in
-    long_once (decision_named r.scheduler) r.settings u ys a b
-    (subst (λ (bytes : List ℕ). IsLongJournal (decision_named r.scheduler) r.settings bytes ys a) same.0
-    (subst (λ (files : List (List ℕ)). IsLongJournal (decision_named r.scheduler) r.settings t files a) same.1 long)) other
+-- and has one size
+same_size : (r : RunWords) (c : Contents) (a b : ℕ) → IsLongIn r c a → IsLongIn r c b → a ≡ b
+same_size r c a b long other =
+    long_once (decision_named r.scheduler) r.settings other.table other.captures a b (long_at r c a long other.table other.captures other.inputs) other.longer
 
 run_is_no_check : (r : RunWords) (words : CheckWords) → run r ≡ check words → ⊥
 run_is_no_check r words same = absurd (cc)
 
+module _ (c : Command) (status : ℕ) (r : RunWords) (contents : Contents) (size : ℕ) (read : IsReadable c (run r) contents) (wanted : r.journal ≡ true)
+    (long : IsLongIn r contents size) where
+  long_answer : (ending : Ending) → Answers c status ending → AnswersUnlessOut c status (JournalTooLong size)
+  long_answer Done a =
+      absurd (long_is_not_made r contents a.1.2.texts size wanted (made_of c (run r) a.1.0 contents a.1.2.texts read a.1.1 a.1.2.made) long)
+  long_answer Usage a = absurd (no_job c (run r) read.words a.1.0)
+  long_answer (ReadFault input) a = absurd (no_read_fault c (run r) contents input read a.1)
+  long_answer (TooLong input) a =
+      let stops = stops_here c (run r) contents (TooLong input) read.words read.seen a.1 in
+      absurd (long_input (run r) contents long.table long.captures input long.inputs stops.0)
+  long_answer (Refused fault) a =
+      let stops = stops_here c (run r) contents (Refused fault) read.words read.seen a.1 in
+      absurd (refused_is_not_long r contents fault size stops.0 long)
+  long_answer (JournalTooLong found) a =
+      let stops = stops_here c (run r) contents (JournalTooLong found) read.words read.seen a.1 in
+      let same = same_size r contents found size (long_of_run r contents found stops.0) long in
+      inl (subst (λ (n : ℕ). Answers c status (JournalTooLong n)) same a)
+  long_answer (PacketsTooLong found) a =
+      let stops = stops_here c (run r) contents (PacketsTooLong found) read.words read.seen a.1 in
+      let here = packets_of_run r contents found stops.0 in
+      absurd (here.journal_fits size wanted (long_at r contents size long here.table here.captures here.inputs))
+  long_answer OutOfMemory a = inr a
+  long_answer (WriteFault written) a =
+      let stops = stops_here c (run r) contents (WriteFault written) read.words read.seen a.1 in
+      absurd (long_is_not_made r contents stops.texts size wanted (texts_of (run r) contents stops.texts stops.made) long)
+  long_answer (Checked e) a =
+      let stops = stops_here c (run r) contents (Checked e) read.words read.seen a.1 in
+      absurd (run_is_no_check r stops.words stops.is_check)
+
 pub journal_exact : (c : Command) (status : ℕ) (ending : Ending) → Answers c status ending → JournalTooLongIsExact c status
-journal_exact c status Done a r contents table captures size read wanted inputs long =
-    let m = made_of c (run r) a.1.0 contents a.1.2.texts read a.1.1 a.1.2.made in
-    absurd (long_is_not_made r contents m.table table m.captures captures a.1.2.texts size wanted m.inputs inputs m.outcome long)
-journal_exact c status Usage a r contents table captures size read wanted inputs long = absurd (no_job c (run r) read.words a.1.0)
-journal_exact c status (ReadFault input) a r contents table captures size read wanted inputs long = absurd (no_read_fault c (run r) contents input read a.1)
-journal_exact c status (TooLong input) a r contents table captures size read wanted inputs long =
-    let stops = stops_here c (run r) contents (TooLong input) read.words read.seen a.1 in
-    absurd (long_input (run r) contents table captures input inputs stops.0)
-journal_exact c status (Refused fault) a r contents table captures size read wanted inputs long =
-    let stops = stops_here c (run r) contents (Refused fault) read.words read.seen a.1 in
-    absurd (refused_is_not_long r contents stops.0.table table stops.0.captures captures fault size stops.0.inputs inputs stops.0.outcome long)
-journal_exact c status (JournalTooLong found) a r contents table captures size read wanted inputs long =
-    let stops = stops_here c (run r) contents (JournalTooLong found) read.words read.seen a.1 in
-    let here = long_of_run r contents found stops.0 in
-    inl (subst (λ (n : ℕ). Answers c status (JournalTooLong n))
-    (same_size r contents here.table table here.captures captures found size here.inputs inputs here.longer long) a)
-journal_exact c status (PacketsTooLong found) a r contents table captures size read wanted inputs long =
-    let stops = stops_here c (run r) contents (PacketsTooLong found) read.words read.seen a.1 in
-    let here = packets_of_run r contents found stops.0 in
-    absurd (here.journal_fits size wanted (long_elsewhere r contents table here.table captures here.captures size inputs here.inputs long))
-journal_exact c status OutOfMemory a r contents table captures size read wanted inputs long = inr a
-journal_exact c status (WriteFault written) a r contents table captures size read wanted inputs long =
-    let stops = stops_here c (run r) contents (WriteFault written) read.words read.seen a.1 in
-    absurd (long_is_not_made r contents stops.made.table table stops.made.captures captures stops.texts size wanted stops.made.inputs inputs
-    stops.made.outcome long)
-journal_exact c status (Checked e) a r contents table captures size read wanted inputs long =
-    let stops = stops_here c (run r) contents (Checked e) read.words read.seen a.1 in
-    absurd (run_is_no_check r stops.words stops.is_check)
+journal_exact c status ending a r contents table captures size read wanted inputs long =
+    long_answer c status r contents size read wanted (record { table = table; captures = captures; inputs = inputs; longer = long }) ending a
 
 -- a packets file that is wanted and too long was not made
-packets_not_made : (r : RunWords) (c : Contents) (t u : List ℕ) (xs ys : List (List ℕ)) (texts : Texts) (size : ℕ) → r.packets ≡ true
-    → AreInputs (run r) (Some c) t xs → AreInputs (run r) (Some c) u ys
-    → AreTexts (run r) t xs texts → IsLongPackets (decision_named r.scheduler) r.settings u ys size → ⊥
-packets_not_made r c t u xs ys texts size wanted a b outcome long =
-    long_packets_not_made (decision_named r.scheduler) r.settings t xs (wanted_by r) texts size wanted outcome (packets_elsewhere r c u t ys xs size b a long)
+packets_not_made : (r : RunWords) (c : Contents) (texts : Texts) (size : ℕ) → r.packets ≡ true → AreMadeOf (run r) c texts → IsLongPacketsIn r c size → ⊥
+packets_not_made r c texts size wanted made long =
+    long_packets_not_made (decision_named r.scheduler) r.settings made.table made.captures (wanted_by r) texts size wanted made.outcome
+    (packets_at r c size long made.table made.captures made.inputs)
+
+module _ (c : Command) (status : ℕ) (r : RunWords) (contents : Contents) (size : ℕ) (read : IsReadable c (run r) contents) (wanted : r.packets ≡ true)
+    (long : IsLongPacketsIn r contents size) where
+  packets_answer : (ending : Ending) → Answers c status ending → AnswersUnlessOut c status (PacketsTooLong size)
+  packets_answer Done a =
+      absurd (packets_not_made r contents a.1.2.texts size wanted (made_of c (run r) a.1.0 contents a.1.2.texts read a.1.1 a.1.2.made) long)
+  packets_answer Usage a = absurd (no_job c (run r) read.words a.1.0)
+  packets_answer (ReadFault input) a = absurd (no_read_fault c (run r) contents input read a.1)
+  packets_answer (TooLong input) a =
+      let stops = stops_here c (run r) contents (TooLong input) read.words read.seen a.1 in
+      absurd (long_input (run r) contents long.table long.captures input long.inputs stops.0)
+  packets_answer (Refused fault) a =
+      let stops = stops_here c (run r) contents (Refused fault) read.words read.seen a.1 in
+      absurd (refused_is_not_long_packets r contents fault size stops.0 long)
+  packets_answer (JournalTooLong found) a =
+      let stops = stops_here c (run r) contents (JournalTooLong found) read.words read.seen a.1 in
+      let here = wanted_long r contents found stops.0 in
+      absurd (long.journal_fits found here.1 (long_at r contents found here.0 long.table long.captures long.inputs))
+  packets_answer (PacketsTooLong found) a =
+      let stops = stops_here c (run r) contents (PacketsTooLong found) read.words read.seen a.1 in
+      let there = packets_at r contents found (packets_of_run r contents found stops.0) long.table long.captures long.inputs in
+      inl (subst (λ (n : ℕ). Answers c status (PacketsTooLong n))
+      (long_packets_once (decision_named r.scheduler) r.settings long.table long.captures found size there long.longer) a)
+  packets_answer OutOfMemory a = inr a
+  packets_answer (WriteFault written) a =
+      let stops = stops_here c (run r) contents (WriteFault written) read.words read.seen a.1 in
+      absurd (packets_not_made r contents stops.texts size wanted (texts_of (run r) contents stops.texts stops.made) long)
+  packets_answer (Checked e) a =
+      let stops = stops_here c (run r) contents (Checked e) read.words read.seen a.1 in
+      absurd (run_is_no_check r stops.words stops.is_check)
 
 pub packets_exact : (c : Command) (status : ℕ) (ending : Ending) → Answers c status ending → PacketsTooLongIsExact c status
-packets_exact c status Done a r contents table captures size read wanted inputs fits long =
-    let m = made_of c (run r) a.1.0 contents a.1.2.texts read a.1.1 a.1.2.made in
-    absurd (packets_not_made r contents m.table table m.captures captures a.1.2.texts size wanted m.inputs inputs m.outcome long)
-packets_exact c status Usage a r contents table captures size read wanted inputs fits long = absurd (no_job c (run r) read.words a.1.0)
-packets_exact c status (ReadFault input) a r contents table captures size read wanted inputs fits long =
-    absurd (no_read_fault c (run r) contents input read a.1)
-packets_exact c status (TooLong input) a r contents table captures size read wanted inputs fits long =
-    let stops = stops_here c (run r) contents (TooLong input) read.words read.seen a.1 in
-    absurd (long_input (run r) contents table captures input inputs stops.0)
-packets_exact c status (Refused fault) a r contents table captures size read wanted inputs fits long =
-    let stops = stops_here c (run r) contents (Refused fault) read.words read.seen a.1 in
-    absurd (refused_is_not_long_packets r contents stops.0.table table stops.0.captures captures fault size stops.0.inputs inputs stops.0.outcome long)
-packets_exact c status (JournalTooLong found) a r contents table captures size read wanted inputs fits long =
-    let stops = stops_here c (run r) contents (JournalTooLong found) read.words read.seen a.1 in
-    let here = wanted_long r contents found stops.0 in
-    absurd (fits found here.1 (long_elsewhere r contents here.0.table table here.0.captures captures found here.0.inputs inputs here.0.longer))
-packets_exact c status (PacketsTooLong found) a r contents table captures size read wanted inputs fits long =
-    let stops = stops_here c (run r) contents (PacketsTooLong found) read.words read.seen a.1 in
-    let here = packets_of_run r contents found stops.0 in
-    let there = packets_elsewhere r contents here.table table here.captures captures found here.inputs inputs here.longer in
-    inl (subst (λ (n : ℕ). Answers c status (PacketsTooLong n))
-    (long_packets_once (decision_named r.scheduler) r.settings table captures found size there long) a)
-packets_exact c status OutOfMemory a r contents table captures size read wanted inputs fits long = inr a
-packets_exact c status (WriteFault written) a r contents table captures size read wanted inputs fits long =
-    let stops = stops_here c (run r) contents (WriteFault written) read.words read.seen a.1 in
-    absurd (packets_not_made r contents stops.made.table table stops.made.captures captures stops.texts size wanted stops.made.inputs inputs
-    stops.made.outcome long)
-packets_exact c status (Checked e) a r contents table captures size read wanted inputs fits long =
-    let stops = stops_here c (run r) contents (Checked e) read.words read.seen a.1 in
-    absurd (run_is_no_check r stops.words stops.is_check)
+packets_exact c status ending a r contents table captures size read wanted inputs fits long =
+    packets_answer c status r contents size read wanted
+    (record { table = table; captures = captures; inputs = inputs; longer = long; journal_fits = fits }) ending a
