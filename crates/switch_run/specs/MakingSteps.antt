@@ -22,7 +22,7 @@ use Rattle.packet_times.specs.KeptSteps.{left}
 use Rattle.run_notes.specs.declared.wanted.Wanted.{Wanted}
 use Rattle.run_notes.specs.declared.texts.NotesFault.{NotesFault}
 use Rattle.run_notes.specs.declared.texts.NotesFault.TheVariants as fault
-use Rattle.run_notes.specs.NotingSteps.{HasNoted, StopsTold, told_by}
+use Rattle.run_notes.specs.NotingSteps.{StopsTold, told_by}
 use Rattle.run_notes.specs.Told.{told_under}
 use Rattle.descriptor_runs.specs.declared.outputs.Captures.TheVariants.{Kept}
 use Rattle.descriptor_runs.specs.Outcomes.{IsRunOutcome}
@@ -32,7 +32,6 @@ use Rattle.job_files.specs.FileSteps.{all_shown}
 use Rattle.job_files.specs.OutputFiles.{Texts, files_of, packets_place}
 use Rattle.job_files.specs.Statuses.{refused_by}
 use Rattle.job_files.specs.declared.output_files.JobTexts.{JobTexts}
-use Rattle.switch_run.specs.declared.runs.NotedRun.{NotedRun}
 use Rattle.switch_run.specs.declared.runs.EndedRun.{EndedRun}
 use Rattle.switch_run.specs.declared.packets.PacketPieces.{PacketPieces}
 use Rattle.switch_run.specs.Switched.{IsPlanned, IsJobOutcome, IsLongJournal, IsLongPackets}
@@ -40,14 +39,7 @@ use Rattle.switch_run.specs.Endings.{IsDone, Stops}
 use Rattle.job_files.specs.declared.ending.Ending.{Ending}
 use Rattle.job_files.specs.declared.ending.Ending.TheVariants.{Done, Refused, JournalTooLong, PacketsTooLong, OutOfMemory}
 
--- The run of the plan under the scheduler came to its end: what it leaves, and its notes.
-pub record IsNotedRun (scheduler : Scheduler) (plan : SwitchPlan) (wanted : Wanted) (is : NotedRun) : Type 0 where
-  pub slots : ℕ
-  pub left : IsRunOutcome Kept scheduler plan slots is.outcome
-  pub wanted_is : is.notes.wanted ≡ wanted
-  pub noted : HasNoted scheduler plan is.notes slots
-
--- The same, with what it tells in place of its notes. A packets file is limited where the run is not long.
+-- The plan's run under the scheduler came to its end: what it leaves and tells. Its packets file is limited if it is not long.
 pub record IsRanOf (scheduler : Scheduler) (plan : SwitchPlan) (wanted : Wanted) (long : Bool) (is : EndedRun) : Type 0 where
   pub slots : ℕ
   pub left : IsRunOutcome Kept scheduler plan slots is.outcome

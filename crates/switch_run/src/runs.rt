@@ -1,12 +1,15 @@
-ghost use Rattle.std.specs.Prelude.{◌≡◌, true, false, IfErr, IfOk};
+ghost use Rattle.std.specs.Prelude.{◌≡◌, ℕ, true, false, IfErr, IfOk, OnOk};
 ghost use Rattle.eslip_rounds.specs.Decisions.{decision_of};
 ghost use Rattle.named_schedulers.specs.Named.{decision_named};
 ghost use Rattle.switch_words.specs.Limits.{AreWithinLimits};
 ghost use Rattle.switch_plan.specs.GoodPlans.{IsGood, IsBurst, IsCountable, switch_plan_of};
 ghost use Rattle.switch_plan.specs.ReadingSteps.{bytes_of_files};
 ghost use Rattle.switch_plan.specs.Refusals.{terms_of};
+ghost use Rattle.descriptor_runs.specs.declared.outputs.Captures.TheVariants.{Kept};
+ghost use Rattle.descriptor_runs.specs.Outcomes.{IsRunOutcome};
+ghost use Rattle.run_notes.specs.NotingSteps.{HasNoted};
 ghost use Rattle.job_files.specs.FileSteps.{AreOfSize};
-ghost use Rattle.switch_run.specs.MakingSteps.{AreNumbers, AreNumbersOf, IsNotedRun, IsRan, IsRanOf, StopsPlan, StopsRun, StopsTexts, ending_of};
+ghost use Rattle.switch_run.specs.MakingSteps.{AreNumbers, AreNumbersOf, IsRan, IsRanOf, StopsPlan, StopsRun, StopsTexts, ending_of};
 ghost use Rattle.switch_run.specs.Switched.{IsPlanned};
 
 use crate::captures::{out_lines, output_captures};
@@ -39,13 +42,6 @@ pub(crate) struct RunWay {
     pub(crate) wanted: Wanted,
 }
 
-// A run that came to its end, with the notes of its slots.
-#[derive(Drop)]
-struct NotedRun {
-    outcome: RunOutcome,
-    notes: RunNotes,
-}
-
 /// A run that came to its end.
 #[derive(Drop)]
 pub(crate) struct EndedRun {
@@ -76,20 +72,21 @@ fn planned<R: Threads + Sync>(
     }
 }
 
-// Runs the plan at a board, whose journal is noted, and writes the captures of its outputs.
+// Runs the plan at a board, notes its journal, and makes the captures of its outputs.
 fn run_at_board<R: Threads + Sync, G: Gate + Sync>(
     rt: &R,
     alloc: Global,
     plan: Plan,
-    wanted: Wanted,
     gate: &G,
-) -> Result<NotedRun, OutOfMemory>
+    notes: &mut RunNotes,
+) -> Result<RunOutcome, OutOfMemory>
     requires good { IsGood (switch_plan_of plan) }
-    requires countable { IsCountable (switch_plan_of plan) }
     requires burst { IsBurst (switch_plan_of plan) }
-    ensures { IfOk result (IsNotedRun decision_of (switch_plan_of plan) wanted) }
+    requires noted { HasNoted decision_of (switch_plan_of plan) notes.old 0 }
+    ensures run { IfOk result (λ outcome. (slots : ℕ) × IsRunOutcome Kept decision_of (switch_plan_of plan) slots outcome
+        × HasNoted decision_of (switch_plan_of plan) notes.new slots) }
+    ensures wanted { OnOk result (notes.new.wanted ≡ notes.old.wanted) }
 {
-    let mut notes = RunNotes::make(alloc, wanted, &plan)?;
     let (nano, link) = (plan.nano, plan.link);
     let Outcome {
         outputs,
@@ -100,29 +97,11 @@ fn run_at_board<R: Threads + Sync, G: Gate + Sync>(
     drop(journal);
     let lines = out_lines(alloc, &outputs)?;
     let captures = output_captures(alloc, nano, link, outputs)?;
-    let outcome = RunOutcome {
+    Ok(RunOutcome {
         summary,
         captures,
         lines,
-    };
-    Ok(NotedRun { outcome, notes })
-}
-
-// Runs the plan on this thread under the scheduler.
-fn run_on_thread(
-    alloc: Global,
-    plan: Plan,
-    scheduler: SchedulerName,
-    wanted: Wanted,
-) -> Result<NotedRun, OutOfMemory>
-    requires good { IsGood (switch_plan_of plan) }
-    requires countable { IsCountable (switch_plan_of plan) }
-    requires burst { wanted.journal ≡ true → IsBurst (switch_plan_of plan) }
-    ensures { IfOk result (IsNotedRun (decision_named scheduler) (switch_plan_of plan) wanted) }
-{
-    let mut notes = RunNotes::make(alloc, wanted, &plan)?;
-    let outcome = run_by_descriptors(alloc, plan, scheduler, Captures::Kept, &mut notes)?;
-    Ok(NotedRun { outcome, notes })
+    })
 }
 
 // Runs the plan to its end under the scheduler, at a board where it is the board's and the run is not long, and else on this
@@ -149,26 +128,29 @@ fn summary_of_run<R: Threads + Sync, G: Gate + Sync>(
     }
 }
 
-// Runs the plan to its end: at a board where its scheduler is the board's and the run is neither long nor to be made alone,
-// else on this thread.
+// Runs the plan to its end, and notes its slots: at a board where its scheduler is the board's and the run is neither long nor
+// to be made alone, else on this thread.
 fn run_noted<R: Threads + Sync, G: Gate + Sync>(
     rt: &R,
     alloc: Global,
     plan: Plan,
     way: RunWay,
     gate: &G,
-) -> Result<NotedRun, OutOfMemory>
+    notes: &mut RunNotes,
+) -> Result<RunOutcome, OutOfMemory>
     requires good { IsGood (switch_plan_of plan) }
     requires countable { IsCountable (switch_plan_of plan) }
     requires burst { way.long ≡ false → IsBurst (switch_plan_of plan) }
-    requires journal { way.long ≡ true → way.wanted.journal ≡ false }
-    ensures { IfOk result (IsNotedRun (decision_named way.scheduler) (switch_plan_of plan) way.wanted) }
+    requires noted { HasNoted (decision_named way.scheduler) (switch_plan_of plan) notes.old 0 }
+    ensures run { IfOk result (λ outcome. (slots : ℕ) × IsRunOutcome Kept (decision_named way.scheduler) (switch_plan_of plan) slots outcome
+        × HasNoted (decision_named way.scheduler) (switch_plan_of plan) notes.new slots) }
+    ensures wanted { OnOk result (notes.new.wanted ≡ notes.old.wanted) }
 {
     match way.scheduler {
         SchedulerName::Islip if !way.alone && !way.long => {
-            run_at_board(rt, alloc, plan, way.wanted, gate)
+            run_at_board(rt, alloc, plan, gate, notes)
         }
-        scheduler => run_on_thread(alloc, plan, scheduler, way.wanted),
+        scheduler => run_by_descriptors(alloc, plan, scheduler, Captures::Kept, notes),
     }
 }
 
@@ -198,7 +180,8 @@ fn run_plan<R: Threads + Sync, G: Gate + Sync>(
     ensures ran { IfOk result (IsRanOf (decision_named way.scheduler) (switch_plan_of plan) way.wanted way.long) }
     ensures stops { IfErr result (StopsRun (decision_named way.scheduler) (switch_plan_of plan) way.wanted way.long) }
 {
-    let NotedRun { outcome, notes } = run_noted(rt, alloc, plan, way, gate)?;
+    let mut notes = RunNotes::make(alloc, way.wanted, &plan)?;
+    let outcome = run_noted(rt, alloc, plan, way, gate, &mut notes)?;
     match notes.texts(alloc, way.long) {
         Ok(told) => Ok(EndedRun { outcome, told }),
         Err(fault) => Err(ending_of(fault)),
