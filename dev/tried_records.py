@@ -1,8 +1,10 @@
 """What dev/wrong_bodies writes of a crate into its file `wrong/tried.txt`, and whether that is still so.
 
-A record has the kit, a sum of the crate's own text, a sum of what is stated in each crate below (its `specs/` and the
-contracts of its sources), and for each edit a sum of its file, the function that it changes and what refused it.
-Kits of one logic prove and refuse the same, so a record holds for each of them.
+A record has the kit, sums of the crate's own text and of its proofs, a sum of what is stated in each crate below (its
+`specs/` and the contracts of its sources), and for each edit a sum of its file, the function that it changes and what
+refused it. Comments are in none of these sums. Kits of one logic prove and refuse the same, so a record holds for each
+of them. It holds for other proofs of the same text too: no proof makes a body meet a contract that it does not meet.
+Only what refused may have another name then.
 """
 
 import hashlib
@@ -31,6 +33,7 @@ class Record(NamedTuple):
 
     kit: str
     text: str
+    proofs: str
     below: dict
     rows: list
 
@@ -49,14 +52,24 @@ def texts_of(folder, parts):
     return [(file.relative_to(folder).as_posix(), file.read_text(encoding="utf-8")) for file in files]
 
 
+def without_comments(text):
+    """A text without its lines that are comments."""
+    return "\n".join(it for it in text.split("\n") if not COMMENT.match(it))
+
+
 def own_sum(folder):
-    """A sum of all that a crate's own proof is of."""
-    return sum_of(texts_of(folder, ("src", "specs", "proofs")))
+    """A sum of a crate's own code, contracts and definitions, without comments."""
+    return sum_of((name, without_comments(text)) for name, text in texts_of(folder, ("src", "specs")))
+
+
+def proofs_sum(folder):
+    """A sum of a crate's own proofs, without comments."""
+    return sum_of((name, without_comments(text)) for name, text in texts_of(folder, ("proofs",)))
 
 
 def stated_sum(folder):
     """A sum of what the crates above can know of a crate: its definitions and its contracts."""
-    specs = [(name, "\n".join(it for it in text.split("\n") if not COMMENT.match(it))) for name, text in texts_of(folder, ("specs",))]
+    specs = [(name, without_comments(text)) for name, text in texts_of(folder, ("specs",))]
     return sum_of(specs + [(name, stated(text)) for name, text in texts_of(folder, ("src",))])
 
 
@@ -72,7 +85,7 @@ def file_of(folder):
 
 def write_record(folder, record):
     """Writes the record of a crate."""
-    lines = [f"kit {record.kit}", f"text {record.text}", *(f"below {name} {sum}" for name, sum in record.below.items())]
+    lines = [f"kit {record.kit}", f"text {record.text}", f"proofs {record.proofs}", *(f"below {name} {sum}" for name, sum in record.below.items())]
     lines += ["edit " + " ".join(row) for row in sorted(record.rows)]
     file_of(folder).parent.mkdir(exist_ok=True)
     file_of(folder).write_text(HEADING + "".join(f"{line}\n" for line in lines), encoding="utf-8")
@@ -82,7 +95,7 @@ def read_record(folder):
     """The record of a crate, None where there is none that can be read."""
     if not file_of(folder).is_file():
         return None
-    found = {"kit": "", "text": "", "below": {}, "edit": []}
+    found = {"kit": "", "text": "", "proofs": "", "below": {}, "edit": []}
     for line in file_of(folder).read_text(encoding="utf-8").splitlines():
         word, _, rest = line.partition(" ")
         if word == "below":
@@ -91,7 +104,7 @@ def read_record(folder):
             found["edit"].append(Row(*rest.split(" ", 3)))
         elif word in found:
             found[word] = rest
-    return Record(found["kit"], found["text"], found["below"], found["edit"])
+    return Record(found["kit"], found["text"], found["proofs"], found["below"], found["edit"])
 
 
 def logic_of(kit):
@@ -115,6 +128,12 @@ def fault_of(top, name, kit):
     below = below_sums(top, name)
     other = sorted(it for it in {*below, *record.below} if below.get(it) != record.below.get(it))
     return f"what is stated in {', '.join(other)} changed since they were tried" if other else ""
+
+
+def is_old(top, name, kit):
+    """Whether the edits of a crate are tried again where none is named: also where its proofs alone changed."""
+    folder = Path(top) / "crates" / name
+    return bool(fault_of(Path(top), name, kit)) or read_record(folder).proofs != proofs_sum(folder)
 
 
 def untried(top):

@@ -166,7 +166,8 @@ class Records(InARepository):
     def setUp(self):
         super().setUp()
         rows = [Row(it.name, it.sum, "more", "`returns-else` of it") for it in wrong_edits.edits_of(self.folder)]
-        self.record = Record(KIT, records.own_sum(self.folder), records.below_sums(self.top, "high"), sorted(rows))
+        sums = records.own_sum(self.folder), records.proofs_sum(self.folder)
+        self.record = Record(KIT, *sums, records.below_sums(self.top, "high"), sorted(rows))
         records.write_record(self.folder, self.record)
 
     def fault(self, kit=KIT):
@@ -186,8 +187,17 @@ class Records(InARepository):
         self.assertEqual([records.logic_of(it) for it in (KIT, SAME_LOGIC, "kit 1", "")], ["logic 0123", "logic 0123", "kit 1", ""])
 
     def test_changed_text(self):
-        self.put("crates/high/proofs/Lib.antt", "mod More\n")
+        self.put("crates/high/specs/Lib.antt", "-- More is to come.\npub mod Words\n")
+        self.assertEqual(self.fault(), "")
+        self.put("crates/high/specs/Lib.antt", "mod More\n")
         self.assertEqual(self.fault(), "it changed since they were tried")
+
+    def test_changed_proofs(self):
+        """No proof makes a wrong body a right one; still they are tried again where no crate is named."""
+        self.assertFalse(records.is_old(self.top, "high", KIT))
+        self.put("crates/high/proofs/Lib.antt", "mod More\n")
+        self.assertEqual(self.fault(), "")
+        self.assertTrue(records.is_old(self.top, "high", KIT))
 
     def test_changed_below(self):
         """A body below is not stated; a contract is."""
