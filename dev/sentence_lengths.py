@@ -4,7 +4,7 @@ import re
 from typing import NamedTuple
 
 # Pages whose sentences have at most so many words on average, and none more than LONGEST.
-PLAIN_PAGES = ("README.md", *(f"docs/{name}.md" for name in ("SWITCH", "WAITING", "PROMISES", "MAINTAINING", "USAGE", "SIMULATE", "SIZING")))
+PLAIN_PAGES = ("README.md", *(f"docs/{name}.md" for name in ("SWITCH", "WAITING", "PROMISES", "MAINTAINING", "USAGE", "LINE_RATES", "SIMULATE", "SIZING")))
 AVERAGE, LONGEST = 18, 40
 
 LEFT_OUT = (

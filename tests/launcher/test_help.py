@@ -16,11 +16,12 @@ from .scene import KIT, PROGRAM, TOP, Scene, python
 
 TEXT = (TOP / "docs/USAGE.md").read_text()
 BLOCKS = blocks_of(TEXT)[1]
+OF_LINES = blocks_of((TOP / "docs/LINE_RATES.md").read_text())[1]
 VECTORS = sorted((TOP / "crates/known_formats/data").glob("*words.txt"))
 
 
-def rows_of(title):
-    return [cells_of(row) for lines in section(BLOCKS, title) if lines[0].startswith("|") for row in lines[2:]]
+def rows_of(title, blocks=BLOCKS):
+    return [cells_of(row) for lines in section(blocks, title) if lines[0].startswith("|") for row in lines[2:]]
 
 
 class Help(Scene):
@@ -157,7 +158,7 @@ class LineRates(unittest.TestCase):
     """The numbers of the tables, by hand: a cell is 512 bits; on Ethernet a frame has 24 bytes beside its captured ones."""
 
     def test_what_to_type(self):
-        rows = rows_of("Line rates")[:6]
+        rows = rows_of("Line rates", OF_LINES)[:6]
         worst = max(cells_of_frame(captured) * 64 / (captured + 24) for captured in range(60, 1515))
         for number, ethernet, rate, slot, longest, of_long in rows:
             number = int(number.replace(",", ""))
@@ -168,7 +169,7 @@ class LineRates(unittest.TestCase):
                 self.assertAlmostEqual(seconds(told), slots * exact, delta=0.06 * slots * exact)
 
     def test_frames(self):
-        rows = rows_of("Line rates")[6:]
+        rows = rows_of("Line rates", OF_LINES)[6:]
         self.assertEqual([row[0].partition(", ")[0].replace(",", "") for row in rows[:2]], ["60", "97"])
         factors = {captured: cells_of_frame(captured) * 64 / (captured + 24) for captured in range(60, 1515)}
         self.assertEqual(max(factors, key=factors.get), 97)

@@ -142,5 +142,5 @@ class Late(Scene):
         slot = of_rate(10_000)
         found = late_ports([line(10_000, 60, 1_000)], slot, allowed=[allowed_slots(slot, 1)])[0]
         told = f"late: port 0 (a.pcap): {found.late:,} of 1,000 packets came late, by {found.slots:,} slots ({slot.told(found.slots)}) at most"
-        self.assertIn(told, (TOP / "docs/USAGE.md").read_text())
+        self.assertIn(told, (TOP / "docs/LINE_RATES.md").read_text())
         self.assertEqual((found.late, found.slots), (997, 1998 - 999 * 672 // 512))
