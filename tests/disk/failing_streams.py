@@ -132,12 +132,12 @@ def can_be_loaded(place, limit):
 
 
 def run_with_little_memory(place, *words):
-    """Runs the program under limits on memory: it does all of its work, or tells want of memory and does nothing."""
+    """Runs the program under limits on memory: it does all of its work, or says `out of memory` and does nothing."""
     before = place.state()
     whole = place.run(*words)
     expect(whole, 0, out=whole.out)
     after = place.state()
-    # Want of memory may also come while the words are collected.
+    # Memory may also run out while the words are collected.
     ways = {0: (b"", whole.out), 1: (b"", b""), 5: (b"out of memory\n", b"")}
     told = []
     for megabytes in MEGABYTES:

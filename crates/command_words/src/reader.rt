@@ -13,7 +13,7 @@ use std::marker::Model;
 
 /// The parts of the words of a command with these options.
 ///
-/// `Usage` comes exactly where the words have none, want of memory aside: a word is refused, an option or a flag is not
+/// `Usage` comes exactly where the words have none, unless memory runs out: a word is refused, an option or a flag is not
 /// the command's or is repeated, a flag has a value, or an option has none. `OutOfMemory` may come in place of any answer.
 pub fn parts_of<'a>(
     alloc: Global,

@@ -61,7 +61,7 @@ fn packet_count(cards: &[CardPlan]) -> u32
     count
 }
 
-/// What a switch that has made its run to the end leaves. The only error is want of memory.
+/// What a switch that has made its run to the end leaves. The only error is out of memory.
 pub(crate) fn finish(
     alloc: Global,
     switch: Switch,

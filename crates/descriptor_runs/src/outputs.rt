@@ -73,7 +73,7 @@ impl Output {
     }
 
     /// A packet comes, whose record is added to the capture where it is kept, in nanoseconds or else in microseconds. The only error
-    /// is want of memory. `bytes` are the captured bytes of all packets of its input.
+    /// is out of memory. `bytes` are the captured bytes of all packets of its input.
     pub(crate) fn put(
         &mut self,
         nano: bool,
@@ -106,7 +106,7 @@ impl Output {
     }
 }
 
-// A capture without records, with room for so many bytes of them. The only error is want of memory.
+// A capture without records, with room for so many bytes of them. The only error is out of memory.
 fn empty_capture(alloc: Global, nano: bool, link: Link, room: usize) -> Result<Vec<u8>, OutOfMemory>
     ensures { IfOk result (λ text. text.items ≡ capture_text nano link []) }
 {
@@ -116,7 +116,7 @@ fn empty_capture(alloc: Global, nano: bool, link: Link, room: usize) -> Result<V
     Ok(text)
 }
 
-// The record of a packet is added to a capture. The only error is want of memory.
+// The record of a packet is added to a capture. The only error is out of memory.
 fn put_record(
     text: &mut Vec<u8>,
     nano: bool,

@@ -37,7 +37,7 @@ pub struct RunOutcome {
 
 /// Runs the plan on this thread under the scheduler of this name, to its end. Each slot is noted by the sink when it is made,
 /// where it wants slots; slots in which nothing can happen are skipped, where it does not want them one by one. The only error is
-/// want of memory.
+/// out of memory.
 pub fn run_by_descriptors<S: SlotSink>(
     alloc: Global,
     plan: Plan,
@@ -61,7 +61,7 @@ pub fn run_by_descriptors<S: SlotSink>(
 }
 
 impl Switch {
-    /// Makes the run to its end, and answers how many slots there are. The only error is want of memory.
+    /// Makes the run to its end, and answers how many slots there are. The only error is out of memory.
     pub(crate) fn run<S: SlotSink>(
         &mut self,
         max_slots: u32,

@@ -50,7 +50,7 @@ pub(crate) fn served_inputs(matched: &Match) -> Ports
     difference(all(matched.ports()), matched.free_inputs())
 }
 
-/// Each output takes the cell that crosses to it: that of the input that feeds it. The only error is want of memory.
+/// Each output takes the cell that crosses to it: that of the input that feeds it. The only error is out of memory.
 pub(crate) fn feed_outputs(
     outputs: &mut [Output],
     inputs: &[Input],
@@ -91,7 +91,7 @@ fn fed_outputs(matched: &Match) -> Ports
     difference(all(matched.ports()), matched.free_outputs())
 }
 
-// The output takes this cell of the input, and with the last one of a packet the packet's record. The only error is want of
+// The output takes this cell of the input, and with the last one of a packet the packet's record. The only error is out of
 // memory.
 fn feed(output: &mut Output, input: &Input, name: CellName, nano: bool) -> Result<(), OutOfMemory>
     requires cells { output.old.cells + 1 < 2 ^ 32 }

@@ -129,7 +129,7 @@ impl Switch {
         self.inputs.activity()
     }
 
-    /// Takes what the slot, which is decided, serves off the queues, and brings it to the outputs. The only error is want of
+    /// Takes what the slot, which is decided, serves off the queues, and brings it to the outputs. The only error is out of
     /// memory.
     pub(crate) fn serve(&mut self) -> Result<(), OutOfMemory>
         requires { (scheduler : Scheduler) × (plan : SwitchPlan) × (slot : ℕ) × IsScheduler scheduler × IsGood plan × IsCountable plan

@@ -29,7 +29,7 @@ use std::alloc::Global;
 /// ```
 ///
 /// A level that is absent is 0, and a port named twice counts once. Answers a table exactly where the
-/// text has no fault, want of memory aside. `TooManyLines` comes exactly where the text has more than
+/// text has no fault, unless memory runs out. `TooManyLines` comes exactly where the text has more than
 /// 4,096 route lines. Otherwise the first line with a fault is answered, and within a line the first of
 /// `BadLine`, `HostBits`, `BadPort`, `BadLevel` and `Repeated`. `OutOfMemory` may come in place of any
 /// answer.

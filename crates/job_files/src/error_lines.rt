@@ -210,7 +210,7 @@ pub fn print_usage<F: Files>(files: &mut F)
     give_parts(files, &[Text(USAGE)]);
 }
 
-/// Gives standard error the line for want of memory. Where a call fails, the rest of the line is left out.
+/// Gives standard error the line `out of memory`. Where a call fails, the rest of the line is left out.
 pub fn print_memory<F: Files>(files: &mut F)
     ensures { PrintsLine memory_line F.seen F.faults files.old files.new }
 {

@@ -148,7 +148,7 @@ fn read_captures<F: Files>(
 }
 
 /// All bytes of the files of these names: of the table and of each capture, in this order. The error is how the job
-/// ends: with the first file of which a read was refused or that is too long, or with want of memory.
+/// ends: with the first file of which a read was refused or that is too long, or where memory runs out.
 pub fn read_inputs<F: Files>(
     alloc: Global,
     reads: &Reads<'_>,
@@ -170,7 +170,7 @@ pub fn read_inputs<F: Files>(
     Ok(Inputs { table, captures })
 }
 
-/// The input that a `gen` job makes. The only error is want of memory.
+/// The input that a `gen` job makes. The only error is out of memory.
 pub fn made_inputs(alloc: Global, job: &GenJob) -> Result<Inputs, OutOfMemory>
     requires { IsGenWithinLimits job.now }
     ensures table { IfOk result (λ i. i.table.items ≡ made_table job.now.ports) }

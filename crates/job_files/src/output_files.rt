@@ -66,7 +66,7 @@ fn journal_file(alloc: Global, prefix: &str, bytes: Vec<u8>) -> Result<OutputFil
     Ok(OutputFile { name, bytes })
 }
 
-/// The packets file where there is one, `PREFIX.packets.csv`, with room for a piece of 65,536 bytes. The only error is want of
+/// The packets file where there is one, `PREFIX.packets.csv`, with room for a piece of 65,536 bytes. The only error is out of
 /// memory.
 pub fn packets_file<P: Pieces + Drop>(
     alloc: Global,
@@ -84,7 +84,7 @@ pub fn packets_file<P: Pieces + Drop>(
 }
 
 /// The files of a run before its packets file, in order: the captures of the outputs, `PREFIX.j.pcap`, the report,
-/// `PREFIX.report`, and the journal where there is one, `PREFIX.journal`. The only error is want of memory.
+/// `PREFIX.report`, and the journal where there is one, `PREFIX.journal`. The only error is out of memory.
 pub fn run_files(
     alloc: Global,
     prefix: &str,

@@ -1,4 +1,4 @@
--- Want of memory is no cause for which what was read is refused.
+-- Out of memory is no cause for which what was read is refused.
 use Rattle.std.proofs.Common.{◌≢◌, ℕ, ◌+◌, Bool, true, false, List, [], ◌∷◌, length, Option, None, Some}
 use Rattle.std.specs.Prelude.{if◌then◌else◌, map, nat_lt, option_map, sum_by}
 use Rattle.std.specs.Option.{option_or}

@@ -93,7 +93,7 @@ fn set_len(set: Ports) -> u64
 /// The file of a journal of at least one slot, whose bytes are at most 134,217,728: its ports, rounds
 /// and slots, of each slot the rows and `more` of all cards, and the match. The cells are not kept.
 ///
-/// The only error is want of memory. Room for all bytes is asked for before the first is written; no clause speaks of it.
+/// The only error is out of memory. Room for all bytes is asked for before the first is written; no clause speaks of it.
 pub fn journal_bytes(alloc: Global, journal: &Journal) -> Result<Vec<u8>, OutOfMemory>
     requires some { 0 < length journal.now.slots }
     requires size { length (file_text (file_of journal.now)) ≤ MAX_JOURNAL_BYTES }

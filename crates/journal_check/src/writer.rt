@@ -49,7 +49,7 @@ impl Model for JournalWriter {
 
 impl JournalWriter {
     /// The file of a switch of so many ports, 1 to 64, and rounds of a slot, 1 to 64, before its first
-    /// slot. The only error is want of memory.
+    /// slot. The only error is out of memory.
     pub fn make(alloc: Global, ports: u32, rounds: u32) -> Result<JournalWriter, OutOfMemory>
         requires ports { (0 < ports) × (ports ≤ MAX_PORTS) }
         requires rounds { (0 < rounds) × (rounds ≤ MAX_ROUNDS) }
@@ -68,7 +68,7 @@ impl JournalWriter {
     }
 
     /// Appends a slot: what its ports posted, at most 64 posts, and its match. A file has at most
-    /// 262,145 slots. The only error is want of memory; after it what is written is no file.
+    /// 262,145 slots. The only error is out of memory; after it what is written is no file.
     pub fn put(&mut self, posts: &[Post], matched: &Match) -> Result<(), OutOfMemory>
         requires posts { length posts.now ≤ MAX_PORTS }
         requires slots { self.old.slots < MAX_SLOTS }

@@ -12,7 +12,7 @@ use std::alloc::{AllocError, Global};
 const LINE_BYTES: usize = 84;
 
 /// The line of each of these outputs, 64 at most, from output 0 on: `reference`, the output, `ends`, `runs`,
-/// `lead` and `extra`, each name with its number. The only error is want of memory.
+/// `lead` and `extra`, each name with its number. The only error is out of memory.
 pub fn reference_text(alloc: Global, lines: &[RefLine]) -> Result<String, OutOfMemory>
     requires { length lines.now ≤ MAX_PORTS }
     ensures { IfOk result (λ text. string_bytes text ≡ lines_text (reference_lines lines.now)) }

@@ -39,7 +39,7 @@ fn zeros(alloc: Global, len: usize) -> Result<Vec<u8>, AllocError>
     vec![in alloc; 0u8; len]
 }
 
-/// A buffer of 65,536 zeros to read files through, as by [`read_whole`]. Its one error is want of memory.
+/// A buffer of 65,536 zeros to read files through, as by [`read_whole`]. Its one error is out of memory.
 pub fn read_buffer(alloc: Global) -> Result<Vec<u8>, AllocError>
     ensures length { IfOk result (λ v. length v.items ≡ 65536) }
     ensures zeros { IfOk result (λ v. All (λ byte. byte ≡ 0) v.items) }

@@ -44,7 +44,7 @@ impl Model for PacketTimes {
 }
 
 impl PacketTimes {
-    /// The times of a good plan whose packets can be counted, before slot 0. Want of memory is the only error.
+    /// The times of a good plan whose packets can be counted, before slot 0. Out of memory is the only error.
     pub fn make(alloc: Global, plan: &Plan) -> Result<PacketTimes, OutOfMemory>
         requires good { IsGood (switch_plan_of plan.now) }
         requires countable { IsCountable (switch_plan_of plan.now) }
@@ -61,7 +61,7 @@ impl PacketTimes {
         })
     }
 
-    /// Notes the next slot of the run, from slot 0 on: what its ports posted, and its match. Want of memory is the only
+    /// Notes the next slot of the run, from slot 0 on: what its ports posted, and its match. Out of memory is the only
     /// error.
     pub fn note(&mut self, slot: u32, posts: &[Post], matched: &Match) -> Result<(), OutOfMemory>
         requires { (scheduler : Scheduler) × (plan : SwitchPlan) × HasNoted scheduler plan self.old slot

@@ -37,7 +37,7 @@ pub record IsLong (order : Order) (rest : List ℕ) (captured : ℕ) : Type 0 wh
   pub over : 262144 < captured
   pub fits : captured < 2 ^ 32
 
--- The fault of a file, exactly where it has it. Want of memory is no fault of a file.
+-- The fault of a file, exactly where it has it. Out of memory is no fault of a file.
 abbrev pub IsFault : List ℕ → PcapFault → Type 0
 IsFault file (ShortHeader len) = (length file < 24) × (len ≡ length file)
 IsFault file (BadMagic found) =

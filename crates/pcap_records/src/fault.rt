@@ -6,7 +6,7 @@ use std::error::Error;
 use std::fmt;
 
 /// Why a file is no capture that is read here: the first fault in the order of this list, of which
-/// want of memory alone may come in place of any answer.
+/// out of memory alone may come in place of any answer.
 #[derive(Clone, Copy, Debug, PartialEq, Eq)]
 pub enum PcapFault {
     /// The file has `len` bytes, fewer than the 24 of a header.

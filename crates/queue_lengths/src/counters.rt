@@ -54,7 +54,7 @@ impl Model for QueueLengths {
 
 impl QueueLengths {
     /// The queues of an input that is to send what a plan of fewer than 2^32 packets says, before slot 0. It copies
-    /// the plan's packets, without their bytes; want of memory is the only error.
+    /// the plan's packets, without their bytes; out of memory is the only error.
     pub fn make(alloc: Global, plan: &CardPlan) -> Result<QueueLengths, OutOfMemory>
         requires good { IsGoodPlan (plan_of plan.now) }
         requires few { length (plan_of plan.now).packets < 2 ^ 32 }

@@ -41,7 +41,7 @@ impl Model for Input {
 }
 
 impl Input {
-    /// An input that is to send what a plan of fewer than 2^32 packets and cells says, before slot 0. Want of
+    /// An input that is to send what a plan of fewer than 2^32 packets and cells says, before slot 0. Out of
     /// memory is the only error.
     pub(crate) fn make(alloc: Global, plan: &CardPlan) -> Result<Input, OutOfMemory>
         requires good { IsGoodPlan (plan_of plan.now) }

@@ -41,7 +41,7 @@ impl Model for QueueMeasures {
 }
 
 impl QueueMeasures {
-    /// The measures of a good plan that is countable, before slot 0. Want of memory is the only error.
+    /// The measures of a good plan that is countable, before slot 0. Out of memory is the only error.
     pub fn make(alloc: Global, plan: &Plan) -> Result<QueueMeasures, OutOfMemory>
         requires good { IsGood (switch_plan_of plan.now) }
         requires countable { IsCountable (switch_plan_of plan.now) }
@@ -73,7 +73,7 @@ impl QueueMeasures {
     }
 
     /// The report's lines of a run of which so many slots were noted, and by whose end all packets have arrived: a line for
-    /// each queue that a packet was for, and then that of the deepest. Want of memory is the only error.
+    /// each queue that a packet was for, and then that of the deepest. Out of memory is the only error.
     pub fn text(&self, alloc: Global) -> Result<String, OutOfMemory>
         ensures { (scheduler : Scheduler) (plan : SwitchPlan) (slots : ℕ) → HasNoted scheduler plan self.now slots → ArrivalsComeFirst plan slots
             → IfOk result (λ text. string_bytes text ≡ lines_text (queue_lines_under scheduler plan slots)) }

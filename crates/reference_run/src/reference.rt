@@ -15,7 +15,7 @@ use std::alloc::{AllocError, Global};
 use switch_plan::Plan;
 
 /// The reference of a good plan that is countable, before slot 0: its ports, its depth, and of each card the packets
-/// that go anywhere. The only error is want of memory.
+/// that go anywhere. The only error is out of memory.
 pub fn reference_of(alloc: Global, plan: &Plan) -> Result<Reference, OutOfMemory>
     requires good { IsGood (switch_plan_of plan.now) }
     requires countable { IsCountable (switch_plan_of plan.now) }

@@ -62,7 +62,7 @@ impl Model for RunNotes {
 
 impl RunNotes {
     /// The notes of the run of a good plan that is countable, before slot 0, for the texts that are wanted. The
-    /// plan is of a burst where its journal is wanted. Want of memory is the only error.
+    /// plan is of a burst where its journal is wanted. Out of memory is the only error.
     pub fn make(alloc: Global, wanted: Wanted, plan: &Plan) -> Result<RunNotes, OutOfMemory>
         requires good { IsGood (switch_plan_of plan.now) }
         requires countable { IsCountable (switch_plan_of plan.now) }
@@ -85,7 +85,7 @@ impl RunNotes {
         })
     }
 
-    /// Notes all slots of the journal of a run at the board, of which none is noted. Want of memory is the only error;
+    /// Notes all slots of the journal of a run at the board, of which none is noted. Out of memory is the only error;
     /// after it no text can be made of these notes.
     pub fn note_journal(&mut self, journal: &Journal) -> Result<(), OutOfMemory>
         requires { (plan : SwitchPlan) × (slots : ℕ) × IsLength plan slots × (journal.now.slots ≡ run_journal plan slots)
@@ -106,7 +106,7 @@ impl RunNotes {
     }
 
     /// The texts of a run that has come to its end, of which all slots are noted. The journal's length is tested first, then
-    /// that of the packets file, which has no limit where the run is long; the other error is want of memory.
+    /// that of the packets file, which has no limit where the run is long; the other error is out of memory.
     pub fn texts(self, alloc: Global, long: bool) -> Result<NotedTexts, NotesFault>
         requires { (scheduler : Scheduler) × (plan : SwitchPlan) × (slots : ℕ) × IsLengthUnder scheduler plan slots × HasNoted scheduler plan self slots }
         ensures made { (scheduler : Scheduler) (plan : SwitchPlan) (slots : ℕ) → IsLengthUnder scheduler plan slots
@@ -152,7 +152,7 @@ impl SlotSink for RunNotes {
         self.wanted.is_each()
     }
 
-    // After want of memory no text can be made of these notes.
+    // Once memory ran out no text can be made of these notes.
     fn note(
         &mut self,
         slot: u32,

@@ -36,7 +36,7 @@ pub trait SlotSink {
         ensures { result ≡ wants_each (wanted self.now) };
 
     /// Notes the next slot of the run, from slot 0 on and before its end: what its ports posted, its match, and how its
-    /// rounds were used. Want of memory is the only error.
+    /// rounds were used. Out of memory is the only error.
     fn note(
         &mut self,
         slot: u32,

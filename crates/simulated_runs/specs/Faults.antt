@@ -5,7 +5,7 @@ use Rattle.simulated_slots.specs.Jobs.{JobValue, places_of}
 use Rattle.simulated_runs.specs.declared.fault.SimulationFault.{SimulationFault}
 use Rattle.simulated_runs.specs.declared.fault.SimulationFault.TheVariants.{TooManyCells, OutOfMemory}
 
--- a job is refused for its queues where they would have places for too many cells, and for want of memory only where not
+-- a job is refused for its queues where they would have places for too many cells, and as out of memory only where not
 abbrev pub IsFaultOf : JobValue → SimulationFault → Type 0
 IsFaultOf job (TooManyCells cells) = (MAX_CELLS < places_of job) × (cells ≡ places_of job)
 IsFaultOf job OutOfMemory = places_of job ≤ MAX_CELLS

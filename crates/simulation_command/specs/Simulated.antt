@@ -11,7 +11,7 @@ use Rattle.simulation_command.specs.Endings.{Command, IsDone, IsStopped, status_
 abbrev pub Answers : Command → ℕ → Type 0
 Answers c status = ((status ≡ 0) × IsDone c) ⊎ ((fault : CommandFault) × (status ≡ status_of fault) × IsStopped c fault)
 
--- Status 2 comes exactly where the words mean no simulation, want of memory aside.
+-- Status 2 comes exactly where the words mean no simulation, unless memory runs out.
 pub record UsageIsExact (c : Command) (status : ℕ) : Type 0 where
   pub only : status ≡ 2 → c.simulation ≡ None
   pub every : c.simulation ≡ None → (status ≡ 2) ⊎ (status ≡ 5)

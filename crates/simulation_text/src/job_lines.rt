@@ -36,7 +36,7 @@ fn put_traffic(text: &mut String, traffic: &Traffic) -> Result<(), AllocError>
     )
 }
 
-/// Appends the lines of the job. The only error is want of memory.
+/// Appends the lines of the job. The only error is out of memory.
 #[tactic(auto, unfolding(crate::specs::Texts::job_text))]
 pub(crate) fn put_job(text: &mut String, job: &Job) -> Result<(), AllocError>
     ensures { OnOk result (string_bytes text.new ≡ string_bytes text.old ++ job_text job.now) }

@@ -23,7 +23,7 @@ fn put_numbers(text: &mut String, numbers: &[u128]) -> Result<(), AllocError>
     Ok(())
 }
 
-/// Appends the line of a name and these numbers. The only error is want of memory.
+/// Appends the line of a name and these numbers. The only error is out of memory.
 #[tactic(auto, unfolding(crate::specs::Texts::line))]
 pub(crate) fn put_line(text: &mut String, name: &str, numbers: &[u128]) -> Result<(), AllocError>
     ensures { OnOk result (string_bytes text.new ≡ string_bytes text.old ++ line name.now numbers.now) }

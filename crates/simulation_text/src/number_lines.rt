@@ -7,7 +7,7 @@ use delay_counts::DelayCount;
 use simulated_runs::{BatchNumbers, Numbers, PERCENTILES, PortNumbers};
 use std::alloc::AllocError;
 
-/// Appends the lines of the cells. The only error is want of memory.
+/// Appends the lines of the cells. The only error is out of memory.
 #[tactic(auto, unfolding(crate::specs::Texts::cells_text))]
 pub(crate) fn put_cells(text: &mut String, numbers: &Numbers) -> Result<(), AllocError>
     ensures { OnOk result (string_bytes text.new ≡ string_bytes text.old ++ cells_text numbers.now) }
@@ -53,7 +53,7 @@ fn put_percentiles(
     )
 }
 
-/// Appends the lines of the delays. The only error is want of memory.
+/// Appends the lines of the delays. The only error is out of memory.
 #[tactic(auto, unfolding(crate::specs::Texts::delays_text))]
 pub(crate) fn put_delays(text: &mut String, numbers: &Numbers) -> Result<(), AllocError>
     ensures { OnOk result (string_bytes text.new ≡ string_bytes text.old ++ delays_text numbers.now) }
@@ -62,7 +62,7 @@ pub(crate) fn put_delays(text: &mut String, numbers: &Numbers) -> Result<(), All
     put_percentiles(text, &numbers.percentiles, numbers.longest_delay)
 }
 
-/// Appends the lines of the slots. The only error is want of memory.
+/// Appends the lines of the slots. The only error is out of memory.
 #[tactic(auto, unfolding(crate::specs::Texts::slots_text))]
 pub(crate) fn put_slots(text: &mut String, numbers: &Numbers) -> Result<(), AllocError>
     ensures { OnOk result (string_bytes text.new ≡ string_bytes text.old ++ slots_text numbers.now) }
@@ -101,7 +101,7 @@ fn put_port(text: &mut String, number: usize, port: PortNumbers) -> Result<(), A
     )
 }
 
-/// Appends the line of each port. The only error is want of memory.
+/// Appends the line of each port. The only error is out of memory.
 pub(crate) fn put_ports(text: &mut String, ports: &[PortNumbers]) -> Result<(), AllocError>
     ensures { OnOk result (string_bytes text.new ≡ string_bytes text.old ++ lines_by_place port_line ports.now) }
 {
@@ -123,7 +123,7 @@ fn put_batch(text: &mut String, number: usize, batch: BatchNumbers) -> Result<()
     )
 }
 
-/// Appends the line of each batch. The only error is want of memory.
+/// Appends the line of each batch. The only error is out of memory.
 pub(crate) fn put_batches(text: &mut String, batches: &[BatchNumbers]) -> Result<(), AllocError>
     ensures { OnOk result (string_bytes text.new ≡ string_bytes text.old ++ lines_by_place batch_line batches.now) }
 {
@@ -145,7 +145,7 @@ fn put_count(text: &mut String, count: DelayCount) -> Result<(), AllocError>
     )
 }
 
-/// Appends the line of each delay that cells had. The only error is want of memory.
+/// Appends the line of each delay that cells had. The only error is out of memory.
 pub(crate) fn put_counts(text: &mut String, counts: &[DelayCount]) -> Result<(), AllocError>
     ensures { OnOk result (string_bytes text.new ≡ string_bytes text.old ++ flat_map count_line counts.now) }
 {

@@ -25,7 +25,7 @@ fn put_histogram(
 
 /// The text of a job with these numbers: what is simulated and measured, a line for each number of the whole switch, a
 /// line for each port and for each batch, and with the histogram a line for each delay that cells had. The only error
-/// is want of memory.
+/// is out of memory.
 #[tactic(auto, unfolding(crate::specs::Texts::text_of))]
 pub fn simulation_text(
     alloc: Global,

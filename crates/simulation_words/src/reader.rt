@@ -29,7 +29,7 @@ pub struct SimulationWords {
 /// The names are a seed, a number of slots and a number of ports. Each option is given at most once, in any order. A
 /// number is 1 to 10 decimal digits. That the cells of all queues fit is not tested here.
 ///
-/// `Usage` comes exactly where the words mean no simulation, want of memory aside. `OutOfMemory` may come in place of any
+/// `Usage` comes exactly where the words mean no simulation, unless memory runs out. `OutOfMemory` may come in place of any
 /// answer.
 pub fn read_words(alloc: Global, words: &[String]) -> Result<SimulationWords, WordsFault>
     ensures simulation { IfOk result (λ s. simulation_of (map string_bytes words.now) ≡ Some s) }

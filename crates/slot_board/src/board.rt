@@ -42,8 +42,8 @@ impl Model for Board {
 impl Board {
     /// A board of `n` ports, 1 to 64, with `rounds` rounds a slot, 1 to 64, on which at most `max_slots`
     /// slots are posted, 1 to `MAX_SLOTS`, and to `MAX_SLOTS_WIDE` for more than 32 ports; and its seats,
-    /// that of card i at place i. It takes the memory for all that comes after. It fails for want of
-    /// memory alone.
+    /// that of card i at place i. It takes the memory for all that comes after. Out of memory is the
+    /// only error.
     pub fn make(
         alloc: Global,
         n: u32,

@@ -77,7 +77,7 @@ fn put_outputs(text: &mut String, outputs: &[OutLine]) -> Result<(), AllocError>
     Ok(())
 }
 
-/// The summary of a run: twelve lines. The only error is want of memory.
+/// The summary of a run: twelve lines. The only error is out of memory.
 pub fn summary_text(alloc: Global, summary: &Summary) -> Result<String, OutOfMemory>
     ensures { IfOk result (λ text. string_bytes text ≡ lines_text (summary_lines summary.now)) }
 {
@@ -87,7 +87,7 @@ pub fn summary_text(alloc: Global, summary: &Summary) -> Result<String, OutOfMem
 }
 
 /// The report of a run: the summary, a line for each of the outputs, 64 at most, these further lines, and a line for each
-/// decided slot where a journal is given. The only error is want of memory.
+/// decided slot where a journal is given. The only error is out of memory.
 ///
 /// The text is sized before the first line; no clause says so.
 pub fn report_text(
@@ -106,7 +106,7 @@ pub fn report_text(
     Ok(text)
 }
 
-/// The report of a run, as `report_text` makes it, whose slots' lines are given as text. The only error is want of memory.
+/// The report of a run, as `report_text` makes it, whose slots' lines are given as text. The only error is out of memory.
 pub fn report_with_lines(
     alloc: Global,
     summary: &Summary,

@@ -39,7 +39,7 @@ fn put_pairs(text: &mut String, matched: &Match) -> Result<(), AllocError>
     Ok(())
 }
 
-/// Appends the line of a slot: its number, how its rounds were used, and its match. The only error is want of memory.
+/// Appends the line of a slot: its number, how its rounds were used, and its match. The only error is out of memory.
 pub fn put_slot_line(
     text: &mut String,
     slot: u32,

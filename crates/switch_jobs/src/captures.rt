@@ -11,7 +11,7 @@ use std::alloc::{AllocError, Global};
 
 /// The output capture of what a card leaves: a record for each message, of nanoseconds where `nano` says so
 /// and else of microseconds. The messages have 16 to 65,551 bytes and are all of the body. The only error
-/// is want of memory.
+/// is out of memory.
 pub fn output_bytes(
     alloc: Global,
     card: &CardOut,
@@ -36,7 +36,7 @@ pub fn into_capture(card: CardOut, nano: bool, link: Link) -> Result<Vec<u8>, Ou
     capture_in(card.body, &card.lens, nano, link)
 }
 
-// The capture of the messages of this body, which have these lengths. The only error is want of memory.
+// The capture of the messages of this body, which have these lengths. The only error is out of memory.
 fn capture_in(body: Vec<u8>, lens: &[u32], nano: bool, link: Link) -> Result<Vec<u8>, OutOfMemory>
     requires { AreLengths lens.now (length body.items) }
     ensures { (messages : List (List ℕ)) → body.items ≡ concat messages → lens.now ≡ map length messages
@@ -48,7 +48,7 @@ fn capture_in(body: Vec<u8>, lens: &[u32], nano: bool, link: Link) -> Result<Vec
     Ok(bytes)
 }
 
-// Puts the header of a capture before its records. The only error is want of memory.
+// Puts the header of a capture before its records. The only error is out of memory.
 fn put_header(records: &mut Vec<u8>, nano: bool, link: Link) -> Result<(), AllocError>
     ensures { OnOk result (records.new.items ≡ header_text nano link ++ records.old.items) }
 {

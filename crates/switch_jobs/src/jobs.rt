@@ -18,7 +18,7 @@ use slot_board::{Board, Seats};
 use std::alloc::{AllocError, Global};
 use switch_plan::Plan;
 
-/// All that a run of the plan needs: it takes all memory of the run. The only error is want of memory.
+/// All that a run of the plan needs: it takes all memory of the run. The only error is out of memory.
 pub fn ready(alloc: Global, plan: Plan) -> Result<Ready, OutOfMemory>
     requires good { IsGood (switch_plan_of plan) }
     requires burst { IsBurst (switch_plan_of plan) }

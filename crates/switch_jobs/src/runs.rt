@@ -21,7 +21,7 @@ use switch_plan::Plan;
 const PATIENCE: u32 = 64;
 
 /// Runs the plan: takes all memory that this needs, and then makes all slots with a patience of 64. The only
-/// error is want of memory.
+/// error is out of memory.
 ///
 /// While nothing of a better level is posted, a unicast queue that is posted is served within so many slots as
 /// `longest_service_at_line_rate()` of `service_bound` tells, if no multicast of its level is posted either; and a

@@ -70,7 +70,7 @@ first_fault files answers rest captures fault read whole =
           })
     ]
 
--- which is no want of memory
+-- which is not out of memory
 pub no_memory_fault : (files : List (List ℕ)) (port : ℕ) (fault : PcapFault) → IsFirstFault files port fault → fault ≢ OutOfMemory
 no_memory_fault files port fault first memory =
     subst (IsFault (slice_index_or files port [])) memory (first.faulty [])

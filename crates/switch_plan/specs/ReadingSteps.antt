@@ -25,7 +25,7 @@ pub record IsCaptureOf (bytes : List ℕ) (capture : Capture) : Type 0 where
   pub short : All (λ packet. packet.len ≤ MAX_CAPTURED_BYTES) capture.packets.items
   pub few : length capture.packets.items ≤ MAX_PORT_PACKETS
 
--- what reading a file gave: its capture, its fault, or want of memory
+-- what reading a file gave: its capture, its fault, or out of memory
 abbrev pub IsReadAs : List ℕ → Result Capture PcapFault → Type 0
 IsReadAs bytes (Ok capture) = IsCaptureOf bytes capture
 IsReadAs bytes (Err fault) = (fault ≡ OutOfMemory) ⊎ IsFault bytes fault

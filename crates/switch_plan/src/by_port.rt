@@ -12,7 +12,7 @@ use std::thread::Threads;
 pub(crate) const SMALL_CAPTURE: usize = 64 * 1024;
 
 /// What `f` gives at each port's job, in order: on this thread where the captures are small, and otherwise each in a
-/// thread of its own where one can be made. The only error is want of memory.
+/// thread of its own where one can be made. The only error is out of memory.
 pub(crate) fn map_ports<R: Threads + Sync, J: Send + Drop, X: Send + Drop, F: Fn(J) -> X + Sync>(
     rt: &R,
     alloc: Global,

@@ -10,9 +10,9 @@ use std::fmt;
 /// Why a job is refused before its first slot.
 #[derive(Clone, Copy, Debug, PartialEq, Eq)]
 pub enum PlanFault {
-    /// The table's text is no table. The fault is never want of memory.
+    /// The table's text is no table. The fault is never out of memory.
     Table(TableFault),
-    /// A file is no capture. The fault is never want of memory.
+    /// A file is no capture. The fault is never out of memory.
     Capture {
         /// The least port whose file is none.
         port: u32,

@@ -119,7 +119,7 @@ fn plan_of<R: Threads + Sync>(
     Ok(plan_with(alloc, settings, nano, link, ports, &brought)?)
 }
 
-// The plan of these ports, which bring so much. The only error is want of memory.
+// The plan of these ports, which bring so much. The only error is out of memory.
 #[tactic(auto, using(crate::proofs::PortSums::aside_is, crate::proofs::PortSums::oversize_is, crate::proofs::PortSums::ports_summable))]
 fn plan_with(
     alloc: Global,

@@ -12,7 +12,7 @@ use reassembly::FLOWS_PER_INPUT;
 use rotating_pick::{MAX_PORTS, OutOfMemory};
 use std::alloc::{AllocError, Global};
 
-/// What each of these ports brings. The only error is want of memory.
+/// What each of these ports brings. The only error is out of memory.
 pub(crate) fn brought_by_ports(
     alloc: Global,
     ports: &[PortPlan],
@@ -27,7 +27,7 @@ pub(crate) fn brought_by_ports(
 }
 
 /// The cards of all ports, which bring so much, with the rooms for what the packets of all of them bring to their
-/// outputs. The only error is want of memory.
+/// outputs. The only error is out of memory.
 pub(crate) fn cards_of(
     alloc: Global,
     depth: u32,

@@ -33,7 +33,7 @@ pub(crate) struct PortPlan {
 }
 
 /// The ports of all captures, each planned by itself, in threads where there are some and a capture is not small. The
-/// only error is want of memory.
+/// only error is out of memory.
 pub(crate) fn port_plans<R: Threads + Sync>(
     rt: &R,
     alloc: Global,

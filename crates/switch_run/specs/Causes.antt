@@ -79,7 +79,7 @@ pub record IsCheckable (c : Command) (job : CheckWords) (contents : Contents) : 
   pub seen : c.old ≡ Some contents
   pub reads : Rose (c.was (ReadOf job.file)) (c.now (ReadOf job.file)) → ⊥
 
--- Status 2 comes exactly where the words mean no job, want of memory aside; where the first word names no command, or there is
+-- Status 2 comes exactly where the words mean no job, unless memory runs out; where the first word names no command, or there is
 -- none, it comes even where memory has run out.
 pub record UsageIsExact (c : Command) (status : ℕ) : Type 0 where
   pub only : status ≡ 2 → c.job ≡ None

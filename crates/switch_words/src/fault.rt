@@ -50,7 +50,7 @@ impl<T: Drop> From<AllocFailed<T>> for WordsFault {
     }
 }
 
-// A parse without help and version fails at the words, or for want of memory.
+// A parse without help and version fails at the words, or where memory runs out.
 impl From<clap::Error> for WordsFault {
     ghost use Rattle.std.specs.Prelude.{◌≡◌};
     ghost use Rattle.clap.specs.Words.{kind_of};

@@ -26,7 +26,7 @@ use std::alloc::{AllocError, Global};
 /// next word, which may not begin with `-`. Another word that begins with `-` is refused, but `-` alone
 /// is a name. A number is 1 to 10 decimal digits.
 ///
-/// `Usage` comes exactly where the words give no job, want of memory aside: there is no such command,
+/// `Usage` comes exactly where the words give no job, unless memory runs out: there is no such command,
 /// a word is refused, the command lacks an option, an option is repeated, a flag has a value, a value is
 /// no number within its limits or no scheduler's name, both `--pace-us` and `--line-rate` are given, `--long`
 /// is given with `--slots` or `--journal`, or there are more or fewer names. `OutOfMemory` may come in place of

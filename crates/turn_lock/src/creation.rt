@@ -14,7 +14,7 @@ use std::snapshot::Snapshot;
 
 impl<K: Kept> Turn<K> {
     /// A turn lock round a value, with 1 to 64 seats: seat i of the list has number i, has seen
-    /// nothing and has no finds. The one error is want of memory.
+    /// nothing and has no finds. The one error is out of memory.
     pub fn make(alloc: Global, value: K, seats: u32) -> Result<(Turn<K>, TurnSeats<K>), OutOfMemory>
         requires some { 0 < seats }
         requires most { seats ≤ MAX_PORTS }
