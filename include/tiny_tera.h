@@ -172,7 +172,7 @@ uint32_t tiny_tera_decide_many_rrm(
 
 /* Whether a match is maximal for these rows: no free input asks a free output, and no input that is matched as
  * multicast asks a free output as multicast of the same level. The match may come from any scheduler; words that are no
- * match are refused: an input that is matched twice, but for several outputs of one multicast head.
+ * match are refused: an input that is matched twice, except for several outputs of one multicast head.
  *   rows     n rows
  *   feeds    n elements: the match
  *   maximal  written: 1 or 0 */

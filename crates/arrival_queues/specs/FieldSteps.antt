@@ -101,7 +101,7 @@ abbrev pub AsksFor : List Row → List Row → Option ArrivedCell → Type 0
 AsksFor old new None = new ≡ old
 AsksFor old new (Some cell) = AsksToo old new cell.input cell.output
 
--- queue q is kept as it was made, but for its cells
+-- queue q is kept as it was made, except for its cells
 pub record IsOwn (queues : Queues) (q : ℕ) (queue : QueueValue) : Type 0 where
   pub queueing : queue.queueing ≡ queues.queueing
   pub input : queue.input ≡ input_told queues.queueing queues.ports q

@@ -22,7 +22,7 @@ use Rattle.descriptor_runs.specs.InputSteps.{InputValue}
 use Rattle.descriptor_runs.specs.OutputSteps.{OutputValue, HasCome, HasTaken, messages_with}
 use Rattle.descriptor_runs.specs.SwitchSteps.{AreGranted, AreOutputs}
 
--- The outputs have what slot t brings to them, but for those of the set, which have what came before.
+-- The outputs have what slot t brings to them, except for those of the set, which have what came before.
 pub record AreFed (scheduler : Scheduler) (plan : SwitchPlan) (t left : ℕ) (outputs : List OutputValue) : Type 0 where
   pub count : length outputs ≡ ports_of plan
   pub fed : (j : ℕ) (output : OutputValue) → (Has left j → ⊥) → slice_get outputs j ≡ Some output → HasCome scheduler plan (t + 2) j output

@@ -38,7 +38,7 @@ pub record IsServing (scheduler : Scheduler) (plan : SwitchPlan) (t : ℕ) (inpu
   pub matched_is : matched ≡ match_under scheduler plan t
   pub parts_are : AreParts scheduler plan t parts
 
--- The inputs have been served in slot t and are granted their cells, but for those of the set, which are as they were given.
+-- The inputs have been served in slot t and are granted their cells, except for those of the set, which are as they were given.
 pub record AreServed (scheduler : Scheduler) (plan : SwitchPlan) (t : ℕ) (given : List InputValue) (rest : ℕ) (inputs : List InputValue)
     (names : List (Option CellName)) : Type 0 where
   pub long : length names ≡ MAX_PORTS

@@ -1,4 +1,4 @@
--- A round keeps a match a match: no input or output is matched twice but for one multicast head.
+-- A round keeps a match a match: no input or output is matched twice except for one multicast head.
 use Rattle.std.proofs.Common.{◌≡◌, ℕ, ◌<◌, ◌⊎◌, ◌∙◌, List, [], ◌∷◌, Option, refl, sym, subst, inl, inr, arith}
 use Rattle.rotating_pick.specs.declared.kinds.Kind.{Kind}
 use Rattle.rotating_pick.specs.declared.kinds.Kind.TheVariants.{Uni, Multi}

@@ -1,4 +1,4 @@
--- One slot under FIRM: a slot as iSLIP makes it, but for where the
+-- One slot under FIRM: a slot as iSLIP makes it, except for where the
 -- grant pointers of refused grants go.
 use Rattle.std.specs.Prelude.{◌≡◌, ℕ, ◌+◌, ◌%◌, List, Option}
 use Rattle.rotating_pick.specs.Rotation.{IsFirstFrom}

@@ -16,7 +16,7 @@ o >>= f = option_and_then f o
 abbrev pub digit_of : ℕ → Option ℕ
 digit_of byte = if nat_le digit_zero byte && nat_le byte digit_nine then Some (byte - digit_zero) else None
 
--- number = 1 to 3 digits, with no leading zero but for "0" itself
+-- number = 1 to 3 digits, with no leading zero except for "0" itself
 unfoldable pub number_of : List ℕ → Option ℕ
 number_of (a ∷ []) = digit_of a
 number_of (a ∷ b ∷ []) = if a == digit_zero then None else do

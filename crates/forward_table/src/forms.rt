@@ -140,7 +140,7 @@ fn number_up_to(most: u32, text: &[u8]) -> Option<u32>
     if number <= most { Some(number) } else { None }
 }
 
-// A number of one to three digits, with no leading zero but for "0" itself.
+// A number of one to three digits, with no leading zero except for "0" itself.
 #[tactic(auto, unfolding(crate::specs::Forms::number_of))]
 fn number_of(text: &[u8]) -> Option<u32>
     ensures { result ≡ number_of text.now }

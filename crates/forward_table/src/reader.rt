@@ -25,7 +25,7 @@ use std::alloc::Global;
 /// length  = number of at most 32
 /// ports   = number *("," number)
 /// level   = number
-/// number  = 1 to 3 digits, with no leading zero but for "0" itself
+/// number  = 1 to 3 digits, with no leading zero except for "0" itself
 /// ```
 ///
 /// A level that is absent is 0, and a port named twice counts once. Answers a table exactly where the

@@ -25,7 +25,7 @@ pub fn idle_slots_change_nothing()
         → IsIdle scheduler plan t → NoneArrive plan (t + 1) u → AreIdle scheduler plan t u }
 {}
 
-/// What such a run has done before slot u is what it had done before slot t + 1, but for the number of slots.
+/// What such a run has done before slot u is what it had done before slot t + 1, except for the number of slots.
 pub fn gaps_can_be_skipped()
     ensures { (scheduler : Scheduler) (plan : SwitchPlan) (t u : ℕ) → IsScheduler scheduler → IsQuiet scheduler → IsGood plan → t < u
         → IsIdle scheduler plan t → NoneArrive plan (t + 1) u → AreAsAfter scheduler plan (t + 1) u }

@@ -16,11 +16,11 @@ terms_in (gen g) = terms_of g.settings
 terms_in (check c) = record { speed = Untimed; long = false }
 terms_in (firm f) = terms_of f.settings
 
--- the same settings but for the number of workers
+-- the same settings except for the number of workers
 abbrev pub settings_with : ℕ → Settings → Settings
 settings_with workers settings = record settings { workers = workers }
 
--- the same job but for the number of workers; `check` has none
+-- the same job except for the number of workers; `check` has none
 abbrev pub with_workers : ℕ → JobWords → JobWords
 with_workers workers (run r) = run (record r { settings = settings_with workers r.settings })
 with_workers workers (gen g) = gen (record g { settings = settings_with workers g.settings })

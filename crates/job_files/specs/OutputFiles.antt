@@ -69,7 +69,7 @@ run_files prefix texts = files_in_order prefix texts.outputs texts.report texts.
 abbrev pub packets_place : ℕ → Bool → ℕ
 packets_place outputs with_journal = outputs + 1 + (if with_journal then 1 else 0)
 
--- the files that a job writes, in order: none but for `run`
+-- the files that a job writes, in order: none except for `run`
 abbrev pub files_of : JobWords → Texts → List NamedBytes
 files_of (run r) texts = run_files r.prefix texts
 files_of (gen g) texts = []

@@ -1,4 +1,4 @@
-//! Laws of journal files, as the contracts of functions that do nothing, but for one that goes over a journal.
+//! Laws of journal files, as the contracts of functions that do nothing, except for one that goes over a journal.
 
 ghost use Rattle.std.specs.Prelude.{◌≡◌, ℕ, ◌+◌, ◌*◌, ◌<◌, ◌≤◌, ◌↔◌, Ok, None, List, All, Any, length, take, drop, map};
 ghost use Rattle.rotating_pick.specs.declared.kinds.Kind.TheVariants.{Uni};

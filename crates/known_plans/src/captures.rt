@@ -15,7 +15,7 @@ const IPV4: &[u8; 2] = b"\x08\0";
 
 const ARP: &[u8; 2] = b"\x08\x06";
 
-// An IPv4 header but for its last four bytes, the address that the packet goes to.
+// An IPv4 header except for its last four bytes, the address that the packet goes to.
 const IP_HEADER: &[u8; 16] = b"\x45\0\0\x14\0\0\0\0\x40\x11\0\0\x0a\0\0\x01";
 
 /// A capture without packets.

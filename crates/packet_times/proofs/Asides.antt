@@ -72,7 +72,7 @@ module _ (plan : SwitchPlan) where
 -- ---- what the captures have
 module _ (settings : Settings) (files : List (List ℕ)) (table : List RouteLine) (captures : List CaptureFile) (plan : SwitchPlan)
     (is : IsPlanOf settings files table captures plan) where
-  -- the packets of a port, but for their places
+  -- the packets of a port, except for their places
   abbrev port : CaptureFile → List Planned
   port capture = port_traffic table (first_link captures) (pace_of settings.speed captures) capture.packets
 

@@ -1,4 +1,4 @@
--- One slot under round-robin matching: a slot as iSLIP makes it, but for where grants move grant pointers.
+-- One slot under round-robin matching: a slot as iSLIP makes it, except for where grants move grant pointers.
 use Rattle.std.specs.Prelude.{◌≡◌, ℕ, ◌+◌, ◌%◌, List, Option}
 use Rattle.rotating_pick.specs.Rotation.{IsFirstFrom}
 use Rattle.rotating_pick.specs.declared.kinds.Kind.TheVariants.{Uni}

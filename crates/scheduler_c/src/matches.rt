@@ -12,7 +12,7 @@ use slot_match::{Fed, Match, Row};
 
 /// Whether a match of `n` ports, 1 to 64, is maximal for what the inputs posted: no free input asks a free
 /// output, and no input that is matched as multicast has a free output in the rest of its head. `maximal` gets 1
-/// or 0. The match may be of any scheduler: it is one where no input is matched twice, but for the outputs of
+/// or 0. The match may be of any scheduler: it is one where no input is matched twice, except for the outputs of
 /// one multicast head.
 #[unsafe(no_mangle)]
 pub extern "C" fn tiny_tera_is_maximal(

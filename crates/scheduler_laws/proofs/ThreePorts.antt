@@ -1,5 +1,5 @@
 -- The schedule of three ports with two rounds or more at line rate: eleven slots, in which a request is served as late as can
--- be. It is that of the family but for the slots in which a request of input 2 for output 2 is made to wait.
+-- be. It is that of the family except for the slots in which a request of input 2 for output 2 is made to wait.
 use Rattle.std.proofs.Common.{◌≡◌, ℕ, ◌+◌, ◌<◌, ◌≤◌, List, [], ◌∷◌, ◌∙◌, refl, inl, inr, arith}
 use Rattle.pointer_state.specs.Places.{Places, grant_of, accept_of}
 use Rattle.service_bound.proofs.PostedRuns.{IsSwitch}

@@ -1,5 +1,5 @@
 -- Slots of unicast of one level alone, renumbered and decided anew at another level: they are a schedule again, of which all is
--- the same but for the names of the ports and the level.
+-- the same except for the names of the ports and the level.
 use Rattle.std.proofs.Common.{◌≡◌, ℕ, suc, ◌+◌, ◌<◌, ◌∙◌, List, [], ◌∷◌, All, length, map, replicate, slice_index, slice_set, refl, ap, sym, subst, inl}
 use Rattle.std.proofs.Common.{inr, arith}
 use Rattle.std.specs.List.{range_with_len}

@@ -40,7 +40,7 @@ pub record IsServed (matched : List (Option Fed)) (i : ℕ) (served : Served) : 
   pub outputs : (j : ℕ) → Has served.outputs j ↔ Serves matched i j served.level served.kind
   pub only : (j level : ℕ) (kind : Kind) → Serves matched i j level kind → (level ≡ served.level) × (kind ≡ served.kind)
 
--- a match of n ports: inputs and levels are in range, and no input is matched twice, but for the
+-- a match of n ports: inputs and levels are in range, and no input is matched twice, except for the
 -- outputs of one multicast head
 pub record IsMatch (n : ℕ) (matched : List (Option Fed)) : Type 0 where
   pub count : length matched ≡ n

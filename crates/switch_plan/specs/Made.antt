@@ -64,7 +64,7 @@ abbrev pub made_port : ℕ → ℕ → ℕ
 made_port ports h = (h / 8) % ports
 
 -- what every frame begins with: an Ethernet header of type 0x0800 with addresses of zeros, and an IPv4 header up to
--- its destination, of zeros but for the version and length
+-- its destination, of zeros except for the version and length
 unfoldable pub frame_begin : List ℕ
 frame_begin = replicate 12 0 ++ 8 ∷ 0 ∷ 0x45 ∷ [] ++ replicate 15 0
 

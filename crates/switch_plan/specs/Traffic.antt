@@ -100,7 +100,7 @@ abbrev pub pace_of : Speed → List CaptureFile → Pace
 pace_of speed captures = pace_from speed (least_time captures)
 
 -- ---- the packets of a port, in order
--- a packet that arrives in this slot, but for the place of its bytes in its file
+-- a packet that arrives in this slot, except for the place of its bytes in its file
 abbrev pub planned : List RouteLine → Link → Packet → ℕ → Planned
 planned table link packet slot = record {
   seconds = packet.seconds;
@@ -113,7 +113,7 @@ planned table link packet slot = record {
   level = level_of (route_for table link packet.bytes);
 }
 
--- a packet but for the place of its bytes
+-- a packet except for the place of its bytes
 abbrev pub unplaced : Planned → Planned
 unplaced packet = record packet { start = 0 }
 

@@ -48,7 +48,7 @@ use Rattle.job_files.specs.OutputFiles.{Texts}
 use Rattle.switch_run.specs.Switched.{IsJobOutcome, IsLongJournal, IsLongPackets, IsPlanned, IsRunOf, IsSwitched}
 use Rattle.switch_run.specs.Switched.{nothing_wanted, texts_under, wanted_by}
 
--- the same plan but for the number of workers
+-- the same plan except for the number of workers
 abbrev plan_with : ℕ → SwitchPlan → SwitchPlan
 plan_with workers plan = record plan { workers = workers }
 
