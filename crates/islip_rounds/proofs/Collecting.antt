@@ -1,5 +1,5 @@
 -- Grants by output, collected by input, and accepted pairs put into a match.
-use Rattle.std.proofs.Common.{◌≡◌, ◌+◌, ℕ, ◌<◌, ◌↔◌, ◌⊎◌, ◌∙◌, List, Option, None, Some, length, slice_index, slice_index_or, slice_set, sym, subst, ap}
+use Rattle.std.proofs.Common.{◌≡◌, ◌+◌, ℕ, ◌<◌, ◌↔◌, ◌⊎◌, ◌∙◌, List, Option, None, Some, length, slice_index, slice_index_or, slice_set, refl, sym, subst, ap}
 use Rattle.std.proofs.Common.{arith, inl, inr, get_or-set_same, get_or-set_other}
 use Rattle.std.proofs.lemmas.Bool.{cases_eq}
 use Rattle.std.proofs.lemmas.Option.{same_Some}
@@ -65,17 +65,17 @@ AreFed-skip before accepted m fed nothing was i j = (
       ]),
 )
 
--- input m accepts output y, which was free and which nobody else accepts
-pub AreFed-put : (before accepted : List (Option ℕ)) (m y : ℕ) (fed : List (Option ℕ)) → y < length fed → slice_index_or accepted m None ≡ Some y
-    → IsFreeOutput before y → ((i : ℕ) → slice_index_or accepted i None ≡ Some y → i ≡ m) → AreFed before accepted m fed
+-- input m alone accepts output y, which was free
+pub AreFed-put : (before accepted : List (Option ℕ)) (m y : ℕ) (fed : List (Option ℕ)) → y < length fed → IsFreeOutput before y
+    → ((i : ℕ) → (slice_index_or accepted i None ≡ Some y) ↔ (i ≡ m)) → AreFed before accepted m fed
     → AreFed before accepted (m + 1) (slice_set fed y (Some m))
-AreFed-put before accepted m y fed y_in accepts free once was i j =
+AreFed-put before accepted m y fed y_in free alone was i j =
     elim (cases_eq j y) [
       | inl same ↦
           let at_y : Feeds (slice_set fed y (Some m)) i y ↔ (Feeds before i y ⊎ ((i < m + 1) × (slice_index_or accepted i None ≡ Some y))) =
           rw get_or-set_same (
-            λ new. let is_m : i ≡ m = same_Some i m (sym new) in inr (omega arith, subst (λ k. slice_index_or accepted k None ≡ Some y) (sym is_m) accepts),
-            λ s. elim s [ inl old ↦ absurd (cc) | inr p ↦ let is_m = once i p.1 in ap Some (sym is_m) ],
+            λ new. let is_m : i ≡ m = same_Some i m (sym new) in inr (omega arith, (alone i).1 is_m),
+            λ s. elim s [ inl old ↦ absurd (cc) | inr p ↦ ap Some (sym ((alone i).0 p.1)) ],
           ) in
           subst (λ z. Feeds (slice_set fed y (Some m)) i z ↔ (Feeds before i z ⊎ ((i < m + 1) × (slice_index_or accepted i None ≡ Some z)))) (sym same) at_y
       | inr other ↦
@@ -87,7 +87,7 @@ AreFed-put before accepted m y fed y_in accepts free once was i j =
                   | inr p ↦ elim (cases_eq i m) [
                     | inl same ↦
                         let accepts_j : slice_index_or accepted m None ≡ Some j = subst (λ k. slice_index_or accepted k None ≡ Some j) same p.1 in
-                        absurd (other (same_Some j y (sym accepts_j ∙ accepts)))
+                        absurd (other (same_Some j y (sym accepts_j ∙ (alone m).1 refl)))
                     | inr below ↦ inr (omega (arith, p.0), p.1)
                   ]
                 ]),

@@ -4,11 +4,9 @@ pub mod Exchanging
 pub mod Squares
 pub mod Collecting
 pub mod Counting
-pub mod Ending
 pub mod Lasts
 pub mod Maximal
 pub mod Moving
-pub mod Progress
 pub mod Rounding
 pub mod Running
 pub mod Scattering

@@ -1,6 +1,7 @@
 -- A free input that asks a free output makes a round add a pair, so that a round that adds none leaves a
 -- maximal match.
-use Rattle.std.proofs.Common.{◌≡◌, ℕ, ◌<◌, ◌⊎◌, ◌∙◌, List, Option, None, Some, length, slice_index, slice_index_or, refl, sym, inl, inr, arith}
+use Rattle.std.proofs.Common.{◌≡◌, ℕ, ◌<◌, ◌≤◌, ◌⊎◌, ◌∙◌, List, Option, None, Some, length, slice_index, slice_index_or, refl, sym, subst, inl, inr}
+use Rattle.std.proofs.Common.{arith}
 use Rattle.std.specs.Int.{bit_at}
 use Rattle.std.proofs.lemmas.Bool.{cases_eq, cases_lt}
 use Rattle.std.proofs.lemmas.Option.{same_Some, none-some}
@@ -10,7 +11,7 @@ use Rattle.rotating_pick.proofs.First.{IsFirstFrom-only}
 use Rattle.islip_rounds.specs.declared.unicast.UniPointers.{UniPointers}
 use Rattle.islip_rounds.specs.Numbers.{matched_count}
 use Rattle.islip_rounds.specs.Rounds.{Feeds, IsFreeInput, IsFreeOutput, Requests, Grants, Accepts, IsRound, IsMaximal}
-use Rattle.islip_rounds.proofs.Counting.{more_or_same}
+use Rattle.islip_rounds.proofs.Counting.{count_fewer, more_or_same}
 
 -- whether an output is fed, and whether by this input
 pub free_or_fed : (o : Option ℕ) → (o ≡ None) ⊎ ((x : ℕ) × (o ≡ Some x))
@@ -73,10 +74,21 @@ module _ (n : ℕ) (asks : List ℕ) (pointers : UniPointers) (grant_in : (k : �
       let y = accepted.1 in
       none-some x (sym accepted.2.member.output_free ∙ (round x y).1 (inr accepted.2))
 
+  beyond : (j : ℕ) → n ≤ j → slice_index_or fed j None ≡ None
+  beyond j above = elim (free_or_fed (slice_index_or fed j None)) [ inl free ↦ free | inr by ↦ let inside = (within by.0 j by.1).1 in absurd (omega arith) ]
+
+  -- so did one of which n outputs are matched
+  pub IsMaximal-full : n ≤ matched_count fed → IsMaximal n asks fed
+  IsMaximal-full full i j i_in j_in free vacant has = let fewer = count_fewer fed n j beyond j_in vacant in absurd (omega arith)
+
 module _ (n : ℕ) (asks : List ℕ) (pointers : UniPointers) (before after : List (Option ℕ)) (round : IsRound n asks pointers before after) where
   -- a round adds to the match, or leaves it
-  pub adds : length before ≡ length after → (matched_count before < matched_count after) ⊎ (before ≡ after)
+  adds : length before ≡ length after → (matched_count before < matched_count after) ⊎ (before ≡ after)
   adds long = more_or_same before after long (λ j i feeds. (round i j).1 (inl feeds))
+
+  -- and no round changes it then
+  pub settles : length before ≡ length after → matched_count after ≤ matched_count before → IsRound n asks pointers after after
+  settles long few = elim (adds long) [ inl grows ↦ absurd (omega arith) | inr same ↦ subst (λ m. IsRound n asks pointers m after) same round ]
 
   -- after a round no input has two outputs, where none had before
   pub once_after : ((i j k : ℕ) → Feeds before i j → Feeds before i k → j ≡ k) → ((i : ℕ) → i < n → slice_index pointers.accept i < n) → (i j k : ℕ)

@@ -1,6 +1,6 @@
 -- The pointers that the pairs of the first outputs move.
-use Rattle.std.proofs.Common.{◌≡◌, ◌+◌, ◌%◌, ℕ, ◌<◌, ◌∙◌, List, Option, None, length, slice_index, slice_index_or, slice_set, sym, subst, arith, inl}
-use Rattle.std.proofs.Common.{inr, get_or-set_same, get_or-set_other, length-set}
+use Rattle.std.proofs.Common.{◌≡◌, ◌+◌, ◌%◌, ℕ, ◌<◌, ◌↔◌, ◌∙◌, List, Option, None, length, slice_index, slice_index_or, slice_set, refl, sym, subst, arith}
+use Rattle.std.proofs.Common.{inl, inr, get_or-set_same, get_or-set_other, length-set}
 use Rattle.std.proofs.lemmas.Bool.{cases_eq, cases_lt}
 use Rattle.std.proofs.lemmas.List.{get_or_past}
 use Rattle.std.proofs.lemmas.Option.{same_Some}
@@ -57,14 +57,16 @@ AreGrantsMoved-put n m x first before after m_in here was =
       ];
     }
 
-pub AreAcceptsMoved-put : (n m x : ℕ) (first : List (Option ℕ)) (before after : List ℕ) → x < length after → Feeds first x m
-    → ((j : ℕ) → Feeds first x j → j ≡ m) → AreAcceptsMoved n m first before after → AreAcceptsMoved n (m + 1) first before (slice_set after x ((m + 1) % n))
-AreAcceptsMoved-put n m x first before after x_in here once was =
+-- input x is matched with output m alone
+pub AreAcceptsMoved-put : (n m x : ℕ) (first : List (Option ℕ)) (before after : List ℕ) → x < length after → ((j : ℕ) → Feeds first x j ↔ (j ≡ m))
+    → AreAcceptsMoved n m first before after → AreAcceptsMoved n (m + 1) first before (slice_set after x ((m + 1) % n))
+AreAcceptsMoved-put n m x first before after x_in alone was =
+    let here = (alone m).1 refl in
     let place = λ (i : ℕ). slice_index (slice_set after x ((m + 1) % n)) i in
     record {
       moved = λ i j j_in feeds. elim (cases_eq i x) [
         | inl same ↦
-            let is_m : j ≡ m = once j (subst (λ y. Feeds first y j) same feeds) in
+            let is_m : j ≡ m = (alone j).0 (subst (λ y. Feeds first y j) same feeds) in
             let at_x : place x ≡ (m + 1) % n = rw get_or-set_same in
             subst (λ y. place y ≡ (j + 1) % n) (sym same) (subst (λ y. place x ≡ (y + 1) % n) (sym is_m) at_x)
         | inr other ↦ elim (cases_eq j m) [

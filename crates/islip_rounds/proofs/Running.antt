@@ -20,44 +20,48 @@ AreRounds-append n asks pointers before after (step ∷ steps) chain next = (cha
 pub nothing_fed : (i j : ℕ) → Feeds unmatched i j → ⊥
 nothing_fed i j feeds = let none : slice_index_or unmatched j None ≡ None = get_or-same None 64 j in absurd (cc)
 
--- k rounds from nothing matched made this match, `first` being the match after the first of them
-pub record IsRun (n k : ℕ) (asks : List ℕ) (pointers : UniPointers) (first fed : List (Option ℕ)) (matched : ℕ) (numbers : RoundsUsed) : Type 0 where
+-- what the rounds of a slot made so far: the match after the first of them and after the last, and the numbers
+pub record SoFar : Type 0 where
+  pub done : ℕ
+  pub first : List (Option ℕ)
+  pub fed : List (Option ℕ)
+  pub numbers : RoundsUsed
+
+-- rounds from nothing matched made this
+pub record IsRun (n : ℕ) (asks : List ℕ) (pointers : UniPointers) (s : SoFar) : Type 0 where
   pub steps : List (List (Option ℕ))
-  pub count : length steps ≡ k
+  pub count : length steps ≡ s.done
   pub some : 0 < length steps
   pub chain : AreRounds n asks pointers unmatched steps
-  pub result : fed ≡ last_of unmatched steps
-  pub opening : first ≡ slice_index_or steps 0 unmatched
-  pub counted : matched ≡ matched_count fed
-  pub numbered : numbers ≡ slot_numbers steps
+  pub result : s.fed ≡ last_of unmatched steps
+  pub opening : s.first ≡ slice_index_or steps 0 unmatched
+  pub numbered : s.numbers ≡ slot_numbers steps
 
 -- after the first round
-pub IsRun-first : (n : ℕ) (asks : List ℕ) (pointers : UniPointers) (fed : List (Option ℕ)) (matched : ℕ) (numbers : RoundsUsed)
-    → IsRound n asks pointers unmatched fed → matched ≡ matched_count fed → numbers ≡ numbers_of (matched ∷ [])
-    → IsRun n 1 asks pointers fed fed matched numbers
-IsRun-first n asks pointers fed matched numbers round counted numbered = record {
+pub IsRun-first : (n : ℕ) (asks : List ℕ) (pointers : UniPointers) (fed : List (Option ℕ)) (numbers : RoundsUsed) → IsRound n asks pointers unmatched fed
+    → numbers ≡ numbers_of (matched_count fed ∷ []) → IsRun n asks pointers (record { done = 1; first = fed; fed = fed; numbers = numbers })
+IsRun-first n asks pointers fed numbers round numbered = record {
   steps = fed ∷ [];
   count = refl;
   some = omega arith;
   chain = (round, tt);
   result = refl;
   opening = refl;
-  counted = counted;
-  numbered = let from_nothing : matched ≡ matched_count fed - matched_count unmatched = omega arith in numbered ∙ ap (λ k. numbers_of (k ∷ [])) from_nothing;
+  numbered = let from_nothing : matched_count fed ≡ matched_count fed - matched_count unmatched = omega arith in
+      numbered ∙ ap (λ k. numbers_of (k ∷ [])) from_nothing;
 }
 
 -- after one more round
-pub IsRun-next : (n k : ℕ) (asks : List ℕ) (pointers : UniPointers) (first fed after : List (Option ℕ)) (matched now : ℕ) (numbers more : RoundsUsed)
-    → IsRun n k asks pointers first fed matched numbers → IsRound n asks pointers fed after → now ≡ matched_count after
-    → ((each : List ℕ) → length each ≡ k → numbers ≡ numbers_of each → more ≡ numbers_of (each ++ (now - matched) ∷ []))
-    → IsRun n (k + 1) asks pointers first after now more
-IsRun-next n k asks pointers first fed after matched now numbers more run round counted numbered =
+pub IsRun-next : (n : ℕ) (asks : List ℕ) (pointers : UniPointers) (s : SoFar) (after : List (Option ℕ)) (more : RoundsUsed) → IsRun n asks pointers s
+    → IsRound n asks pointers s.fed after
+    → ((each : List ℕ) → length each ≡ s.done → s.numbers ≡ numbers_of each → more ≡ numbers_of (each ++ (matched_count after - matched_count s.fed) ∷ []))
+    → IsRun n asks pointers (record { done = s.done + 1; first = s.first; fed = after; numbers = more })
+IsRun-next n asks pointers s after more run round numbered =
     let each = added_from 0 (map matched_count run.steps) in
-    let long : length each ≡ k = length-added_from 0 (map matched_count run.steps) ∙ (length-map run.steps matched_count ∙ run.count) in
-    let last_count : matched_count (last_of unmatched run.steps) ≡ matched = sym (run.counted ∙ ap matched_count run.result) in
-    let grown : added_from 0 (map matched_count (run.steps ++ after ∷ [])) ≡ each ++ (now - matched) ∷ [] =
+    let long : length each ≡ s.done = length-added_from 0 (map matched_count run.steps) ∙ (length-map run.steps matched_count ∙ run.count) in
+    let grown : added_from 0 (map matched_count (run.steps ++ after ∷ [])) ≡ each ++ (matched_count after - matched_count s.fed) ∷ [] =
     added_from-append matched_count unmatched after run.steps
-    ∙ ap (λ d. each ++ d ∷ []) (ap (λ m. matched_count after - m) last_count ∙ ap (λ m. m - matched) (sym counted)) in
+    ∙ ap (λ m. each ++ (matched_count after - matched_count m) ∷ []) (sym run.result) in
     record {
       steps = run.steps ++ after ∷ [];
       count = length-append run.steps (after ∷ []) ∙ ap (λ m. m + 1) run.count;
@@ -65,6 +69,5 @@ IsRun-next n k asks pointers first fed after matched now numbers more run round 
       chain = AreRounds-append n asks pointers unmatched after run.steps run.chain (subst (λ m. IsRound n asks pointers m after) run.result round);
       result = sym (last_of-append unmatched after run.steps);
       opening = run.opening ∙ sym (get_or_append_left run.steps (after ∷ []) unmatched 0 run.some);
-      counted = counted;
       numbered = numbered each long run.numbered ∙ ap numbers_of (sym grown);
     }

@@ -3,9 +3,13 @@ use Rattle.std.proofs.Common.{◌+◌, ℕ, ◌<◌, List, length, slice_index_o
 use Rattle.std.proofs.Common.{arith, inl, inr, get_or-set_same, get_or-set_other}
 use Rattle.std.proofs.lemmas.Bool.{cases_eq}
 
+-- the first m places are filled
+abbrev pub AreBelow : {X : Type 0} → (ℕ → X → Type 0) → X → List X → ℕ → Type 0
+AreBelow P d xs m = (k : ℕ) → k < m → P k (slice_index_or xs k d)
+
 -- place m is next
-pub below-next : {X : Type 0} (P : ℕ → X → Type 0) (d : X) (xs : List X) (m : ℕ) (x : X) → m < length xs → P m x
-    → ((k : ℕ) → k < m → P k (slice_index_or xs k d)) → (k : ℕ) → k < m + 1 → P k (slice_index_or (slice_set xs m x) k d)
+pub below-next : {X : Type 0} (P : ℕ → X → Type 0) (d : X) (xs : List X) (m : ℕ) (x : X) → m < length xs → P m x → AreBelow P d xs m
+    → AreBelow P d (slice_set xs m x) (m + 1)
 below-next P d xs m x m_in here below k k_in =
     elim (cases_eq k m) [
       | inl same ↦

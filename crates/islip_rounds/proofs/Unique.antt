@@ -5,17 +5,20 @@ use Rattle.std.proofs.lemmas.Bool.{cases_lt}
 use Rattle.std.proofs.lemmas.List.{get_or_past}
 use Rattle.std.proofs.lemmas.Option.{none-some}
 use Rattle.rotating_pick.proofs.First.{IsFirstFrom-along}
-use Rattle.islip_rounds.specs.declared.numbers.RoundsUsed.{RoundsUsed}
 use Rattle.islip_rounds.specs.declared.unicast.UniPointers.{UniPointers}
-use Rattle.islip_rounds.specs.Numbers.{last_of, matched_count, added_from, numbers_of}
+use Rattle.islip_rounds.specs.Numbers.{last_of, matched_count}
 use Rattle.islip_rounds.specs.Rounds.{Feeds, Requests, Grants, Accepts, IsRound, AreRounds}
-use Rattle.islip_rounds.specs.Slots.{unmatched, AreMoved, IsSlot, AreAlike}
+use Rattle.islip_rounds.specs.Slots.{AreMoved}
 use Rattle.islip_rounds.proofs.Counting.{count_same}
 use Rattle.islip_rounds.proofs.Maximal.{free_or_fed, fed_below}
 
 -- two matches have the same at each output
-abbrev AreSame : List (Option ℕ) → List (Option ℕ) → Type 0
+abbrev pub AreSame : List (Option ℕ) → List (Option ℕ) → Type 0
 AreSame a b = (j : ℕ) → slice_index_or a j None ≡ slice_index_or b j None
+
+-- all pairs of a match are in another
+abbrev AreIn : List (Option ℕ) → List (Option ℕ) → Type 0
+AreIn a b = (i j : ℕ) → Feeds a i j → Feeds b i j
 
 back : (a b : List (Option ℕ)) → AreSame a b → AreSame b a
 back a b same j = sym (same j)
@@ -41,7 +44,7 @@ module _ (n : ℕ) (asks : List ℕ) (pointers : UniPointers) where
   accepts a b same i j = IsFirstFrom-along n (slice_index pointers.accept i) (λ y. Grants n asks pointers a i y) (λ y. Grants n asks pointers b i y) j
       (λ y y_in. (grants a b same i y, grants b a (back a b same) i y))
 
-  after_round : (a b c d : List (Option ℕ)) → AreSame a b → IsRound n asks pointers a c → IsRound n asks pointers b d → (i j : ℕ) → Feeds c i j → Feeds d i j
+  after_round : (a b c d : List (Option ℕ)) → AreSame a b → IsRound n asks pointers a c → IsRound n asks pointers b d → AreIn c d
   after_round a b c d same r s i j feeds = (s i j).1 (elim ((r i j).0 feeds) [ inl old ↦ inl (sym (same j) ∙ old) | inr new ↦ inr (accepts a b same i j new) ])
 
   round_only : (a b c d : List (Option ℕ)) → AreSame a b → IsRound n asks pointers a c → IsRound n asks pointers b d → AreSame c d
@@ -49,14 +52,14 @@ module _ (n : ℕ) (asks : List ℕ) (pointers : UniPointers) where
       same_option (slice_index_or c j None) (slice_index_or d j None) (λ i feeds. after_round a b c d same r s i j feeds)
       (λ i feeds. after_round b a d c (back a b same) s r i j feeds)
 
-  last_only : (a b : List (Option ℕ)) (steps others : List (List (Option ℕ))) → AreSame a b → length steps ≡ length others → AreRounds n asks pointers a steps
+  pub last_only : (a b : List (Option ℕ)) (steps others : List (List (Option ℕ))) → AreSame a b → length steps ≡ length others → AreRounds n asks pointers a steps
       → AreRounds n asks pointers b others → AreSame (last_of a steps) (last_of b others)
   last_only a b [] [] same long r s = same
   last_only a b [] (d ∷ others) same long r s = absurd (omega arith)
   last_only a b (c ∷ steps) [] same long r s = absurd (omega arith)
   last_only a b (c ∷ steps) (d ∷ others) same long r s = last_only c d steps others (round_only a b c d same r.0 s.0) (omega arith) r.1 s.1
 
-  counts_only : (a b : List (Option ℕ)) (steps others : List (List (Option ℕ))) → AreSame a b → length steps ≡ length others
+  pub counts_only : (a b : List (Option ℕ)) (steps others : List (List (Option ℕ))) → AreSame a b → length steps ≡ length others
       → AreRounds n asks pointers a steps → AreRounds n asks pointers b others → map matched_count steps ≡ map matched_count others
   counts_only a b [] [] same long r s = refl
   counts_only a b [] (d ∷ others) same long r s = absurd (omega arith)
@@ -67,7 +70,7 @@ module _ (n : ℕ) (asks : List ℕ) (pointers : UniPointers) where
       let rest = counts_only c d steps others next (omega arith) r.1 s.1 in
       λ t. here t ∷ rest t
 
-  first_only : (a b : List (Option ℕ)) (steps others : List (List (Option ℕ))) → AreSame a b → length steps ≡ length others
+  pub first_only : (a b : List (Option ℕ)) (steps others : List (List (Option ℕ))) → AreSame a b → length steps ≡ length others
       → AreRounds n asks pointers a steps → AreRounds n asks pointers b others → AreSame (slice_index_or steps 0 a) (slice_index_or others 0 b)
   first_only a b [] [] same long r s = same
   first_only a b [] (d ∷ others) same long r s = absurd (omega arith)
@@ -84,7 +87,7 @@ fed_or_none fed i = elim (fed_below fed (length fed) i) [
 
 module _ (n : ℕ) (first other : List (Option ℕ)) (same : AreSame first other) (before after later : UniPointers) (r : AreMoved n first before after)
     (s : AreMoved n other before later) where
-  grant_only : (j : ℕ) → slice_index after.grant j ≡ slice_index later.grant j
+  pub grant_only : (j : ℕ) → slice_index after.grant j ≡ slice_index later.grant j
   grant_only j = elim (free_or_fed (slice_index_or first j None)) [
     | inr by ↦ r.granted by.0 j by.1 ∙ sym (s.granted by.0 j (sym (same j) ∙ by.1))
     | inl free ↦
@@ -92,26 +95,8 @@ module _ (n : ℕ) (first other : List (Option ℕ)) (same : AreSame first other
         ∙ sym (s.grant_stays j (λ i feeds. none-some i (sym free ∙ (same j ∙ feeds))))
   ]
 
-  accept_only : (i : ℕ) → slice_index after.accept i ≡ slice_index later.accept i
+  pub accept_only : (i : ℕ) → slice_index after.accept i ≡ slice_index later.accept i
   accept_only i = elim (fed_or_none first i) [
     | inl found ↦ r.accepted i found.0 found.1 ∙ sym (s.accepted i found.0 (sym (same found.0) ∙ found.1))
     | inr none ↦ r.accept_stays i none ∙ sym (s.accept_stays i (λ j feeds. none j (same j ∙ feeds)))
   ]
-
--- two results of one slot are alike
-pub IsSlot-only : (n rounds : ℕ) (asks : List ℕ) (before : UniPointers) (a b : List (Option ℕ)) (x y : RoundsUsed) (p q : UniPointers)
-    → IsSlot n rounds asks before a x p → IsSlot n rounds asks before b y q → AreAlike a b x y p q
-IsSlot-only n rounds asks before a b x y p q r s =
-    let start : AreSame unmatched unmatched = λ j. refl in
-    let long : length r.steps ≡ length s.steps = r.count ∙ sym s.count in
-    let lasts = last_only n asks before unmatched unmatched r.steps s.steps start long r.chain s.chain in
-    let counts = counts_only n asks before unmatched unmatched r.steps s.steps start long r.chain s.chain in
-    let firsts = first_only n asks before unmatched unmatched r.steps s.steps start long r.chain s.chain in
-    let First = slice_index_or r.steps 0 unmatched in
-    let Other = slice_index_or s.steps 0 unmatched in
-    record {
-      matched = λ j. ap (λ m. slice_index_or m j None) r.result ∙ (lasts j ∙ ap (λ m. slice_index_or m j None) (sym s.result));
-      numbers = r.numbered ∙ (ap (λ c. numbers_of (added_from 0 c)) counts ∙ sym s.numbered);
-      grant = grant_only n First Other firsts before p q r.moved s.moved;
-      accept = accept_only n First Other firsts before p q r.moved s.moved;
-    }

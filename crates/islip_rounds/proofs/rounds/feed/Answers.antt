@@ -12,8 +12,8 @@ loop-i-preserved c =
           rw w.fed-is
           (record {
             long = omega (arith, length-set {A = Option ℕ});
-            fed = AreFed-put c.args.fed.now c.args.accepted.now c.loop-i.i j c.loop-i.fed j_in w.in-Some.is (c.requires.free c.loop-i.i j w.in-Some.is)
-                (λ i accepts. c.requires.once i c.loop-i.i j accepts w.in-Some.is)
+            fed = AreFed-put c.args.fed.now c.args.accepted.now c.loop-i.i j c.loop-i.fed j_in (c.requires.free c.loop-i.i j w.in-Some.is)
+                (λ i. (λ accepts. c.requires.once i c.loop-i.i j accepts w.in-Some.is, λ same. rw same w.in-Some.is))
                 c.loop-i.invariant.fed;
           })
       | in_default w ↦

@@ -1,11 +1,11 @@
-use Rattle.std.proofs.Common.{◌≡◌, ℕ, ◌<◌, ◌∙◌, [], ◌∷◌, ◌++◌, List, length, refl, ap, subst, arith}
+use Rattle.std.proofs.Common.{◌≡◌, ℕ, ◌-◌, ◌<◌, ◌∙◌, [], ◌∷◌, ◌++◌, refl, ap, subst, inl, inr, arith}
+use Rattle.std.proofs.lemmas.Bool.{cases_lt}
 use Rattle.islip_rounds.specs.declared.numbers.RoundsUsed.{RoundsUsed}
-use Rattle.islip_rounds.specs.Numbers.{numbers_of}
+use Rattle.islip_rounds.specs.Numbers.{matched_count, numbers_of}
 use Rattle.islip_rounds.specs.Rounds.{Feeds, IsRound}
 use Rattle.islip_rounds.specs.Slots.{unmatched, AreMoved}
-use Rattle.islip_rounds.proofs.Ending.{AreEnding-next, AreEnding-still, IsRun-still, maximal_if_unused, maximal_if_enough}
-use Rattle.islip_rounds.proofs.Maximal.{once_after}
-use Rattle.islip_rounds.proofs.Running.{nothing_fed, IsRun-first, IsRun-next}
+use Rattle.islip_rounds.proofs.Maximal.{IsMaximal-from_round, IsMaximal-full, once_after, settles}
+use Rattle.islip_rounds.proofs.Running.{nothing_fed, SoFar, IsRun-first, IsRun-next}
 use Rattle.islip_rounds.proofs.slot.islip_slot.Goals as goal
 use Rattle.islip_rounds.proofs.slot.islip_slot.Goals.{then-added-gt0, else-added-gt0}
 
@@ -24,9 +24,12 @@ loop-done-init c =
     let opened : IsRound n asks p unmatched fed = subst (λ m. IsRound n asks p m fed) c.no_ports-fed.ensures (c.round.ensures.round asks c.transpose.ensures) in
     let unused : c.none.result.used ≡ 0 = ap (λ (m : RoundsUsed). m.used) c.none.ensures in
     record {
-      run = IsRun-first n asks p fed matched after.result opened counted (after.ensures.numbers [] refl c.none.ensures);
-      ending = AreEnding-next n asks p 0 unmatched fed 0 matched matched after.result (omega arith) opened refl counted (omega arith) (omega arith)
-          (λ some. let used = after.ensures.more some in omega arith) (λ some. after.ensures.last some unused);
+      run = IsRun-first n asks p fed after.result opened (after.ensures.numbers [] refl c.none.ensures ∙ ap (λ d. numbers_of (d ∷ [])) counted);
+      counted = counted;
+      settled = λ none. settles n asks p unmatched fed opened (omega arith) (omega arith);
+      many = λ some. omega arith;
+      each_adds = λ some. let used = after.ensures.more some in omega arith;
+      last = λ some. after.ensures.last some unused;
       within = c.round.ensures.within;
       once = once_after n asks p unmatched fed opened (λ i j k feeds also. absurd (nothing_fed i j feeds)) c.requires.accept;
       long = omega arith;
@@ -40,31 +43,31 @@ loop-done-preserved c =
     let p = c.args.p.now in
     let known = c.loop-done.invariant in
     let after = c.after_round-numbers-in-loop-done in
-    let first = c.round.new.fed in
     let fed = c.loop-done.fed in
     let k = c.loop-done.done in
-    let matched = c.loop-done.matched in
     let added = c.loop-done.added in
     let numbers = c.loop-done.numbers in
+    let so_far : SoFar = record { done = k; first = c.round.new.fed; fed = fed; numbers = numbers } in
     elim c.if-added-gt0.branch [
       | then-added-gt0 w ↦
           let next = w.round-then-added-gt0.new.fed in
-          let now = w.matched_outputs-now.result in
           let more = w.saturating_sub-added.result in
           let round : IsRound n asks p fed next = w.round-then-added-gt0.ensures.round asks c.transpose.ensures in
           let some : 0 < added = omega arith in
-          let used : numbers.used ≡ k = known.ending.used some in
-          let many = known.ending.many some in
+          let used : numbers.used ≡ k = known.each_adds some in
+          let many = known.many some in
           let to_more : 0 < more → 0 < c.if-added-gt0.added = λ h. let e = w.added-is in omega arith in
-          let numbered : (each : List ℕ) → length each ≡ k → numbers ≡ numbers_of each → after.result ≡ numbers_of (each ++ more ∷ []) =
-          λ each long e. after.ensures.numbers each long e ∙ ap (λ d. numbers_of (each ++ d ∷ [])) w.added-is in
+          let difference : c.if-added-gt0.added ≡ matched_count next - matched_count fed =
+          let a = known.counted in let b = w.matched_outputs-now.ensures in let e = w.saturating_sub-added.ensures in let f = w.added-is in omega arith in
           rw (w.fed-is, w.matched-is, w.added-is)
           (record {
-            run = IsRun-next n k asks p first fed next matched now numbers after.result known.run round w.matched_outputs-now.ensures
-                (λ each long e. numbered each long e ∙ ap (λ d. numbers_of (each ++ d ∷ [])) w.saturating_sub-added.ensures);
-            ending = AreEnding-next n asks p k fed next matched now more after.result
-                (omega arith) round known.run.counted w.matched_outputs-now.ensures w.saturating_sub-added.ensures many
-                (λ h. let grows = after.ensures.more (to_more h) in omega arith) (λ h. after.ensures.last (to_more h) used ∙ w.added-is);
+            run = IsRun-next n asks p so_far next after.result known.run round
+                (λ each long e. after.ensures.numbers each long e ∙ ap (λ d. numbers_of (each ++ d ∷ [])) difference);
+            counted = w.matched_outputs-now.ensures;
+            settled = λ none. settles n asks p fed next round (omega arith) (omega (arith, difference));
+            many = λ h. omega (arith, difference);
+            each_adds = λ h. let grows = after.ensures.more (to_more h) in omega arith;
+            last = λ h. after.ensures.last (to_more h) used ∙ w.added-is;
             within = w.round-then-added-gt0.ensures.within;
             once = once_after n asks p fed next round known.once c.requires.accept;
             long = omega arith;
@@ -72,12 +75,16 @@ loop-done-preserved c =
           })
       | else-added-gt0 w ↦
           let none : added ≡ 0 = omega arith in
-          let numbered : (each : List ℕ) → length each ≡ k → numbers ≡ numbers_of each → after.result ≡ numbers_of (each ++ added ∷ []) =
-          λ each long e. after.ensures.numbers each long e ∙ ap (λ d. numbers_of (each ++ d ∷ [])) w.added-is in
+          let difference : c.if-added-gt0.added ≡ matched_count fed - matched_count fed = let e = w.added-is in omega arith in
           rw (w.fed-is, w.matched-is, w.added-is)
           (record {
-            run = IsRun-still n asks p k first fed matched added numbers after.result none known.run known.ending numbered;
-            ending = AreEnding-still n asks p k fed matched added numbers after.result none known.ending;
+            run = IsRun-next n asks p so_far fed after.result known.run (known.settled none)
+                (λ each long e. after.ensures.numbers each long e ∙ ap (λ d. numbers_of (each ++ d ∷ [])) difference);
+            counted = known.counted;
+            settled = known.settled;
+            many = λ some. absurd (omega arith);
+            each_adds = λ some. absurd (omega arith);
+            last = λ some. absurd (omega arith);
             within = known.within;
             once = known.once;
             long = known.long;
@@ -108,13 +115,17 @@ returns-clause-slot c =
     }
 
 pub returns-clause-unused : goal.returns-clause-unused
-returns-clause-unused c =
+returns-clause-unused c none =
     let known = c.loop-done.invariant in
-    maximal_if_unused c.args.n c.args.asks.now c.args.p.now c.loop-done.done c.loop-done.fed c.loop-done.matched c.loop-done.added c.loop-done.numbers
-    known.ending c.requires.grant c.requires.accept known.within
+    IsMaximal-from_round c.args.n c.args.asks.now c.args.p.now c.requires.grant c.requires.accept c.loop-done.fed known.within
+    (elim (cases_lt 0 c.loop-done.added) [ inl some ↦ absurd (let same = known.last some in omega arith) | inr nothing ↦ known.settled (omega arith) ])
 
 pub returns-clause-enough : goal.returns-clause-enough
 returns-clause-enough c enough =
     let known = c.loop-done.invariant in
-    maximal_if_enough c.args.n c.args.asks.now c.args.p.now c.loop-done.done c.loop-done.fed c.loop-done.matched c.loop-done.added c.loop-done.numbers
-    known.ending c.requires.grant c.requires.accept known.within known.run.counted (omega arith)
+    elim (cases_lt 0 c.loop-done.added) [
+      | inl some ↦ IsMaximal-full c.args.n c.args.asks.now c.args.p.now c.requires.grant c.requires.accept c.loop-done.fed known.within
+          (let many = known.many some in let counted = known.counted in omega arith)
+      | inr nothing ↦ IsMaximal-from_round c.args.n c.args.asks.now c.args.p.now c.requires.grant c.requires.accept c.loop-done.fed known.within
+          (known.settled (omega arith))
+    ]

@@ -1,5 +1,6 @@
-use Rattle.std.proofs.Common.{◌+◌, ◌%◌, ◌<◌, ℕ, length, arith, length-set}
+use Rattle.std.proofs.Common.{◌+◌, ◌%◌, ◌<◌, ℕ, length, arith, length-set, subst, sym}
 use Rattle.std.proofs.lemmas.Nat.{mod_below}
+use Rattle.islip_rounds.specs.Rounds.{Feeds}
 use Rattle.islip_rounds.proofs.Moving.{AreGrantsMoved-put, AreGrantsMoved-skip, AreAcceptsMoved-put, AreAcceptsMoved-skip, stays-in}
 use Rattle.islip_rounds.proofs.slot.move_pointers.Goals as goal
 use Rattle.islip_rounds.proofs.slot.move_pointers.Goals.{in-Some, in_default}
@@ -21,8 +22,8 @@ loop-j-preserved c =
             grant_in = stays-in n j ((i + 1) % n) c.loop-j.grant (mod_below (i + 1) n (omega arith)) so_far.grant_in;
             accept_in = stays-in n i ((j + 1) % n) c.loop-j.accept (mod_below (j + 1) n (omega arith)) so_far.accept_in;
             grants = AreGrantsMoved-put n j i first c.args.grant.now c.loop-j.grant (omega arith) w.in-Some.is so_far.grants;
-            accepts = AreAcceptsMoved-put n j i first c.args.accept.now c.loop-j.accept i_in w.in-Some.is
-                (λ k feeds. c.requires.once i k j feeds w.in-Some.is) so_far.accepts;
+            accepts = AreAcceptsMoved-put n j i first c.args.accept.now c.loop-j.accept i_in
+                (λ k. (λ feeds. c.requires.once i k j feeds w.in-Some.is, λ same. subst (Feeds first i) (sym same) w.in-Some.is)) so_far.accepts;
           })
       | in_default w ↦
           rw (w.grant-is, w.accept-is)
