@@ -17,7 +17,7 @@ use Rattle.pointer_state.specs.Places.{Places, ArePointing, grant_of, accept_of}
 use Rattle.eslip_rounds.specs.Rounds.{IsRound}
 use Rattle.eslip_rounds.specs.Slots.{AreMoved}
 use Rattle.eslip_rounds.proofs.Deciding.{some_below, Names-decides, both}
-use Rattle.service_bound.specs.Windows.{IsClean, IsWithoutMulticast, GainAtMostOne}
+use Rattle.service_bound.specs.Windows.{IsClean, IsWithoutMulticast}
 use Rattle.service_bound.proofs.Sums.{sum_below-le, sum_below-less, sum_below-two}
 use Rattle.service_bound.proofs.Distances.{distance-passed, distance-beyond, distance-next, distance-last, distance-own, next-injective}
 use Rattle.service_bound.proofs.Rank.{fresh_at}
@@ -56,41 +56,29 @@ IsLower n level i j places rows = IsAlone n level i j places rows ⊎ ((x : ℕ)
 decides_other : (x i : ℕ) → Decides (x ≡ i → ⊥)
 decides_other x i = elim (cases_eq x i) [ inl same ↦ inr (λ other. other same) | inr other ↦ inl other ]
 
--- whether an input asks for the output beside these two
-pub other_asks : (n level : ℕ) (rows : List Row) (j i x : ℕ) → Decides ((y : ℕ) × (y < n) × ((y ≡ i → ⊥) × (y ≡ x → ⊥)) × Names (row_of rows y) level Uni j)
+-- an input asks for the output beside these two, or none does
+pub other_asks : (n level : ℕ) (rows : List Row) (j i x : ℕ)
+    → ((y : ℕ) × (y < n) × ((y ≡ i → ⊥) × (y ≡ x → ⊥)) × Names (row_of rows y) level Uni j)
+    ⊎ ((y : ℕ) → y < n → Names (row_of rows y) level Uni j → (y ≡ i) ⊎ (y ≡ x))
 other_asks n level rows j i x =
     let Apart : ℕ → Type 0 = λ y. (y ≡ i → ⊥) × (y ≡ x → ⊥) in
     elim (some_below (λ y. Apart y × Names (row_of rows y) level Uni j)
     (λ y. both (Apart y) (Names (row_of rows y) level Uni j) (both (y ≡ i → ⊥) (y ≡ x → ⊥) (decides_other y i) (decides_other y x))
     (Names-decides (row_of rows y) level Uni j)) n) [
       | inl found ↦ inl (found.0, found.1, found.2.0, found.2.1)
-      | inr none ↦ inr (λ p. none (p.0, p.1, (p.2, p.3)))
+      | inr none ↦ inr (λ y y_in asks. elim (cases_eq y i) [
+        | inl same ↦ inl same
+        | inr other ↦ elim (cases_eq y x) [ inl same ↦ inr same | inr also ↦ absurd (none (y, y_in, ((other, also), asks))) ]
+      ])
     ]
 
--- Where input x begins to ask for output j as the only one beside i, and did not ask for output j + 1: class B, since at
--- line rate x begins to ask for nothing else.
-pub begins_beside : (n level i j x : ℕ) (places : Places) (rows later : List Row) → 2 < n → j < n → x < n → (x ≡ i → ⊥) → IsFarAmongFresh n level i j places
-    → GainAtMostOne n level rows later
-    → (Names (row_of rows x) level Uni j → ⊥) → Names (row_of later x) level Uni j
-    → ((y : ℕ) × (y < n) × ((y ≡ i → ⊥) × (y ≡ x → ⊥)) × Names (row_of later y) level Uni j → ⊥)
-    → (Names (row_of rows x) level Uni ((j + 1) % n) → ⊥) → IsBeside n level i j places later x
-begins_beside n level i j x places rows later more j_in x_in other base gains silent asks alone not_asked =
-    record {
-      base = base;
-      below = x_in;
-      other = other;
-      asks = asks;
-      only = λ y y_in there. elim (cases_eq y i) [
-        | inl same ↦ inl same
-        | inr apart ↦ elim (cases_eq y x) [ inl same ↦ inr same | inr also ↦ absurd (alone (y, y_in, (apart, also), there)) ]
-      ];
-      not_next = λ there.
-          let same : j ≡ (j + 1) % n = gains x x_in j ((j + 1) % n) asks there silent not_asked in
-          let last = distance-last n j j_in in
-          let here = distance-own n j j_in in
-          let e : distance n j j ≡ distance n ((j + 1) % n) j = ap (λ p. distance n p j) same in
-          omega (arith, last, here, e, more);
-    }
+-- no output is the one after it: an input that begins to ask for both begins to ask for two
+pub apart_from_next : (n j : ℕ) → 2 < n → j < n → j ≡ (j + 1) % n → ⊥
+apart_from_next n j more j_in same =
+    let last = distance-last n j j_in in
+    let here = distance-own n j j_in in
+    let e : distance n j j ≡ distance n ((j + 1) % n) j = ap (λ p. distance n p j) same in
+    omega (arith, last, here, e, more)
 
 -- an input whose accept pointer leaves output j is fresh no more
 fresh_at-lost : (n far place turns turns_later : ℕ) → far + 1 ≡ n → place < n → turns + 1 ≡ n → turns_later + 2 ≤ n

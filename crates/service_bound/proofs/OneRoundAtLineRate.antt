@@ -25,7 +25,7 @@ use Rattle.service_bound.proofs.FirstRound.{grants_first, first_granted}
 use Rattle.service_bound.proofs.LaterRounds.{BeginsWith}
 use Rattle.service_bound.proofs.Granting.{IsQuietFor-clean, kind_is_first, served_by_first, refused}
 use Rattle.service_bound.proofs.InWindows.{AskOn}
-use Rattle.service_bound.proofs.LineRateClasses.{IsFarAmongFresh, IsAlone, IsBeside, IsLower, other_asks, begins_beside, FallsByTwo, two_steps, alone_refused}
+use Rattle.service_bound.proofs.LineRateClasses.{IsFarAmongFresh, IsAlone, IsBeside, IsLower, other_asks, apart_from_next, FallsByTwo, two_steps, alone_refused}
 use Rattle.service_bound.proofs.OneRound.{silent_accepted, silent_for, silent_of, one_rank_of, IsNearest, tests_on, one_falls}
 
 module _ (n t level : ℕ) (rows : List Row) (matched : List (Option Fed)) (before after : Places) (level_in : level < LEVELS)
@@ -147,11 +147,11 @@ module _ (n t level : ℕ) (rows : List Row) (matched : List (Option Fed)) (befo
             | inl two ↦ inl (two_by_steps (subst Two (sym own) two)
                 (λ new. let other : h ≡ i → ⊥ = λ e. new (subst (λ v. h ≡ v) (sym own) e) in (other, silent_before h next.below other)))
             | inr rest ↦ elim (other_asks n level later j i i) [
-              | inr none ↦ inr (
+              | inr only ↦ inr (
                 falls_once,
                 inl (record {
                   base = rest.base;
-                  only = λ x x_in asks. elim (cases_eq x i) [ inl same ↦ same | inr other ↦ absurd (none (x, x_in, (other, other), asks)) ];
+                  only = λ x x_in asks. elim (only x x_in asks) [ inl same ↦ same | inr same ↦ same ];
                   passed = inr rest.passed;
                 }),
               )
@@ -162,13 +162,20 @@ module _ (n t level : ℕ) (rows : List Row) (matched : List (Option Fed)) (befo
                     | inr stale ↦ elim (other_asks n level later j i found.0) [
                       | inl second ↦ inl (two_by_two found.0 second.0 found.1 second.1 (λ e. second.2.1 (sym e)) found.2.0 second.2.0 x_none
                           (silent_before second.0 second.1 second.2.0) found.3 second.3 (let some = stale.0 in omega (arith, some, turns)) stale.1)
-                      | inr none ↦
+                      | inr only ↦
                           let not_asked : Names (row_of rows found.0) level Uni ((j + 1) % n) → ⊥ = λ asked. found.2.0 (stale.2 found.0 found.1 asked) in
                           inr (
                             falls_once,
                             inr (
                               found.0,
-                              begins_beside n level i j found.0 after rows later more j_in found.1 found.2.0 rest.base gains x_none found.3 none not_asked,
+                              record {
+                                base = rest.base;
+                                below = found.1;
+                                other = found.2.0;
+                                asks = found.3;
+                                only = only;
+                                not_next = λ also. apart_from_next n j more j_in (gains found.0 found.1 j ((j + 1) % n) found.3 also x_none not_asked);
+                              },
                             ),
                           )
                     ]

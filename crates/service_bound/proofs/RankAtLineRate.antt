@@ -22,7 +22,7 @@ use Rattle.service_bound.proofs.LaterRounds.{BeginsWith}
 use Rattle.service_bound.proofs.Granting.{kind_is_first, served_by_first, refused}
 use Rattle.service_bound.proofs.InWindows.{AskOn}
 use Rattle.service_bound.proofs.RankFalls.{twice_rank_of, falls}
-use Rattle.service_bound.proofs.LineRateClasses.{IsFarAmongFresh, IsAlone, IsBeside, IsLower, other_asks, begins_beside, FallsByTwo, two_steps, alone_refused}
+use Rattle.service_bound.proofs.LineRateClasses.{IsFarAmongFresh, IsAlone, IsBeside, IsLower, other_asks, apart_from_next, FallsByTwo, two_steps, alone_refused}
 
 -- By an input that asks next, the request's rank falls by two or more, or by one into rows of either class.
 pub record FallsLower (n level i j g : ℕ) (before after : Places) (later : List Row) : Type 0 where
@@ -109,9 +109,9 @@ module _ (n t level : ℕ) (rows : List Row) (first matched : List (Option Fed))
               lower = inl (by_steps (subst Two (sym own) two));
             }
             | inr rest ↦ elim (other_asks n level later j i i) [
-              | inr none ↦ once (inl (record {
+              | inr only ↦ once (inl (record {
                 base = rest.base;
-                only = λ x x_in asks. elim (cases_eq x i) [ inl same ↦ same | inr other ↦ absurd (none (x, x_in, (other, other), asks)) ];
+                only = λ x x_in asks. elim (only x x_in asks) [ inl same ↦ same | inr same ↦ same ];
                 passed = inr rest.passed;
               }))
               | inl found ↦
@@ -144,13 +144,19 @@ module _ (n t level : ℕ) (rows : List Row) (first matched : List (Option Fed))
                               lower = inl (by_two_nearer second.0 (omega (arith, after_it, less, differ, place)) some stale.1);
                             }
                           ]
-                      | inr none ↦
-                          let x_none = silent_before found.0 found.1 found.2.0 in
+                      | inr only ↦
                           let not_asked : Names (row_of rows found.0) level Uni ((j + 1) % n) → ⊥ = λ asked. found.2.0 (stale.2 found.0 found.1 asked) in
                           once (inr (
                             found.0,
-                            begins_beside n level i j found.0 after rows later more j_in found.1 found.2.0 rest.base gains x_none found.3
-                                none not_asked,
+                            record {
+                              base = rest.base;
+                              below = found.1;
+                              other = found.2.0;
+                              asks = found.3;
+                              only = only;
+                              not_next = λ also. apart_from_next n j more j_in
+                                  (gains found.0 found.1 j ((j + 1) % n) found.3 also (silent_before found.0 found.1 found.2.0) not_asked);
+                            },
                           ))
                     ]
                   ]

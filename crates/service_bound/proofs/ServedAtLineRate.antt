@@ -59,7 +59,7 @@ begins_lower n level i j places rows more pointing i_in j_in named =
                 → ⊥ = λ e. found.2.0 (distance-injective n (grant_of places j level) found.0 i from_in found.1 i_in e) in
                 let lower = short found.0 (omega (arith, far, place_in)) (inl (omega (arith, far, place_in, differ))) in
                 record { named = named; input = found.0; input_in = found.1; asks = found.3; below = inl (omega (arith, lower)) }
-            | inr none ↦ elim (cases_lt (fresh_of n level places i j) n) [
+            | inr only ↦ elim (cases_lt (fresh_of n level places i j) n) [
               | inl fewer ↦ own (inr fewer)
               | inr all ↦
                   let turns : (x : ℕ) → x < n → distance n (accept_of places x level) j < n =
@@ -78,7 +78,7 @@ begins_lower n level i j places rows more pointing i_in j_in named =
                       omega (arith, bound),
                       inl (record {
                         base = record { far = far; fresh = λ x x_in other. fresh x x_in };
-                        only = λ x x_in asks. elim (cases_eq x i) [ inl same ↦ same | inr other ↦ absurd (none (x, x_in, (other, other), asks)) ];
+                        only = λ x x_in asks. elim (only x x_in asks) [ inl same ↦ same | inr same ↦ same ];
                         passed = inl (fresh i i_in);
                       }),
                     );
