@@ -10,11 +10,10 @@ use Rattle.rotating_pick.proofs.Picking.{Decides, IsFirstFrom-some, distance-inj
 use Rattle.slot_match.specs.declared.rows.Row.{Row}
 use Rattle.slot_match.specs.declared.matching.Fed.{Fed}
 use Rattle.slot_match.specs.Rows.{Names, row_of}
-use Rattle.slot_match.specs.Matches.{unmatched, Serves}
+use Rattle.slot_match.specs.Matches.{Serves}
 use Rattle.slot_match.proofs.Kept.{nobody_at_first}
 use Rattle.slot_match.proofs.Pairs.{Serves-decides, fed_of-lt}
 use Rattle.pointer_state.specs.Places.{Places, ArePointing, grant_of, accept_of}
-use Rattle.eslip_rounds.specs.Rounds.{IsRound}
 use Rattle.eslip_rounds.specs.Slots.{AreMoved}
 use Rattle.eslip_rounds.proofs.Deciding.{some_below, Names-decides, both}
 use Rattle.service_bound.specs.Windows.{IsClean, IsWithoutMulticast}
@@ -23,6 +22,7 @@ use Rattle.service_bound.proofs.Distances.{distance-passed, distance-beyond, dis
 use Rattle.service_bound.proofs.Rank.{fresh_at}
 use Rattle.service_bound.proofs.Fresh.{fresh_for, fresh_of, no_fresher-refused}
 use Rattle.service_bound.proofs.FirstRound.{grants_first}
+use Rattle.service_bound.proofs.LaterRounds.{BeginsWith}
 use Rattle.service_bound.proofs.Granting.{kind_is_first, served_by_first}
 
 -- Input i is as far as can be from output j's grant pointer, and the accept pointers of all others are one beyond j.
@@ -85,22 +85,34 @@ fresh_at-lost : (n far place turns turns_later : ℕ) → far + 1 ≡ n → plac
     → fresh_at n far place turns ≡ fresh_at n far place turns_later + 1
 fresh_at-lost n far place turns turns_later e place_in full moved = omega arith
 
-module _ (n t level : ℕ) (rows : List Row) (first matched : List (Option Fed)) (before after : Places) (level_in : level < LEVELS)
-    (opening : IsRound n t rows before (unmatched n) first) (moved : AreMoved n t rows first matched before after) (pointing : ArePointing n level before)
-    (clean : IsClean n level rows) (alone : IsWithoutMulticast n level rows) (more : 2 < n) where
+-- A slot of three ports or more whose rows name nothing at a better level and nothing as multicast of this one: how it begins,
+-- and how its pointers move.
+pub record IsOpening (n t level : ℕ) (rows : List Row) (first matched : List (Option Fed)) (before after : Places) : Type 0 where
+  pub level_in : level < LEVELS
+  pub begins : BeginsWith n t rows before first matched
+  pub moved : AreMoved n t rows first matched before after
+  pub pointing : ArePointing n level before
+  pub clean : IsClean n level rows
+  pub alone : IsWithoutMulticast n level rows
+  pub more : 2 < n
+
+module _ (n t level : ℕ) (rows : List Row) (first matched : List (Option Fed)) (before after : Places)
+    (slot : IsOpening n t level rows first matched before after) where
   output_in : (x z : ℕ) → Serves first x z level Uni → z < n
-  output_in x z served = let below = fed_of-lt first z (record { input = x; level = level; kind = Uni }) served in let size = opening.count in
+  output_in x z served = let below = fed_of-lt first z (record { input = x; level = level; kind = Uni }) served in let size = slot.begins.opening.count in
       omega (arith, below, size)
 
   input_in : (x z : ℕ) → Serves first x z level Uni → x < n
-  input_in x z served = elim
-      ((opening.pairs x z level Uni).0 served) [ inl old ↦ absurd (nobody_at_first n x z level Uni old) | inr accepted ↦ accepted.taken.member.first.below ]
+  input_in x z served = elim ((slot.begins.opening.pairs x z level Uni).0 served) [
+    | inl old ↦ absurd (nobody_at_first n x z level Uni old)
+    | inr accepted ↦ accepted.taken.member.first.below
+  ]
 
   -- an input is served by one output
   served_once : (x y z : ℕ) → Serves first x y level Uni → Serves first x z level Uni → y ≡ z
   served_once x y z one two =
-      let here = moved.accepted x y level one in
-      let there = moved.accepted x z level two in
+      let here = slot.moved.accepted x y level one in
+      let there = slot.moved.accepted x z level two in
       next-injective n y z (output_in x y one) (output_in x z two) (subst (λ p. p ≡ (z + 1) % n) here there)
 
   -- another input than i is matched in the first round, or none is
@@ -125,12 +137,13 @@ module _ (n t level : ℕ) (rows : List Row) (first matched : List (Option Fed))
       elim (cases_eq x i) [
         | inl same ↦ same
         | inr other ↦
-            let from_in = pointing.grant k k_in in
+            let from_in = slot.pointing.grant k k_in in
             let nearest = IsFirstFrom-some n (grant_of before k level) (λ z. Names (row_of rows z) level Uni k)
             (λ z. Names-decides (row_of rows z) level Uni k) from_in x x_in named in
-            let granted = grants_first n t rows before level level_in clean Uni
-            (kind_is_first n t level rows first before level_in opening pointing clean alone) nearest.0 k k_in nearest.1 in
-            let met = served_by_first n t level rows first before level_in opening pointing clean alone nearest.0 k nearest.1.below granted in
+            let granted = grants_first n t rows before level slot.level_in slot.clean Uni
+            (kind_is_first n t level rows first before slot.level_in slot.begins.opening slot.pointing slot.clean slot.alone) nearest.0 k k_in nearest.1 in
+            let met = served_by_first n t level rows first before slot.level_in slot.begins.opening slot.pointing slot.clean slot.alone nearest.0 k
+            nearest.1.below granted in
             let within = nearest.1.least x x_in named in
             let place_in = distance-lt n (grant_of before k level) x from_in in
             let differ : distance n (grant_of before k level) x ≡ distance n (grant_of before k level) i
@@ -144,20 +157,20 @@ module _ (n t level : ℕ) (rows : List Row) (first matched : List (Option Fed))
     turns_after : (x z : ℕ) → Serves first x z level Uni → distance n (accept_of after x level) j + 2 ≤ n
     turns_after x z served =
         let beyond = distance-beyond n z j (output_in x z served) j_in (λ same. nobody x (subst (λ y. Serves first x y level Uni) same served)) in
-        subst (λ p. distance n p j + 2 ≤ n) (sym (moved.accepted x z level served)) beyond
+        subst (λ p. distance n p j + 2 ≤ n) (sym (slot.moved.accepted x z level served)) beyond
 
     own_lost : (x z : ℕ) → distance n (accept_of before x level) j + 1 ≡ n → Serves first x z level Uni
         → fresh_for n level before i j x ≡ fresh_for n level after i j x + 1
     own_lost x z full served =
-        let stays = moved.grant_stays j level nobody in
+        let stays = slot.moved.grant_stays j level nobody in
         let x_in = input_in x z served in
         let lost = fresh_at-lost n (distance n (grant_of before j level) i) (distance n (grant_of before j level) x) (distance n (accept_of before x level) j)
-        (distance n (accept_of after x level) j) base.far (distance-lt n (grant_of before j level) x (pointing.grant j j_in)) full
+        (distance n (accept_of after x level) j) base.far (distance-lt n (grant_of before j level) x (slot.pointing.grant j j_in)) full
         (turns_after x z served) in
         subst (λ p. fresh_for n level before i j x ≡ fresh_at n (distance n p i) (distance n p x) (distance n (accept_of after x level) j) + 1) (sym stays) lost
 
     no_fresher : (x : ℕ) → x < n → fresh_for n level after i j x ≤ fresh_for n level before i j x
-    no_fresher = no_fresher-refused n t level rows first matched opening.count before after moved pointing i j i_in j_in nobody
+    no_fresher = no_fresher-refused n t level rows first matched slot.begins.opening.count before after slot.moved slot.pointing i j i_in j_in nobody
 
     pub fresh-le : fresh_of n level after i j ≤ fresh_of n level before i j
     fresh-le = sum_below-le (fresh_for n level after i j) (fresh_for n level before i j) n no_fresher
@@ -198,19 +211,19 @@ module _ (n t level : ℕ) (rows : List Row) (first matched : List (Option Fed))
     nearer_by : (g y : ℕ) → g < n → Serves first g y level Uni → distance n (accept_of before g level) y ≤ distance n (accept_of before g level) j
         → distance n (accept_of after g level) j + distance n (accept_of before g level) y + 1 ≡ distance n (accept_of before g level) j
     nearer_by g y g_in served at_most =
-        let accept_in = pointing.accept g g_in in
+        let accept_in = slot.pointing.accept g g_in in
         let y_in = output_in g y served in
         let apart : distance n (accept_of before g level) y ≡ distance n (accept_of before g level) j
         → ⊥ = λ e. nobody g (subst (λ z. Serves first g z level Uni) (distance-injective n (accept_of before g level) y j accept_in y_in j_in e) served) in
         let passed = distance-passed n (accept_of before g level) y j accept_in y_in j_in (omega (arith, at_most, apart)) in
         subst (λ p. distance n p j + distance n (accept_of before g level) y + 1 ≡ distance n (accept_of before g level) j)
-        (sym (moved.accepted g y level served)) passed
+        (sym (slot.moved.accepted g y level served)) passed
 
     -- a fresh input that takes another output than j + 1 makes two steps or more
     pub two_steps : (g y : ℕ) → g < n → Serves first g y level Uni → distance n (accept_of before g level) y ≤ distance n (accept_of before g level) j
         → distance n (accept_of before g level) j + 1 ≡ n → (y ≡ (j + 1) % n → ⊥) → FallsByTwo g i j
     two_steps g y g_in served at_most full other =
-        let accept_in = pointing.accept g g_in in
+        let accept_in = slot.pointing.accept g g_in in
         let y_in = output_in g y served in
         let next_in : (j + 1) % n < n = mod_below (j + 1) n (omega arith) in
         let closer = nearer_by g y g_in served at_most in
@@ -220,14 +233,14 @@ module _ (n t level : ℕ) (rows : List Row) (first matched : List (Option Fed))
         let next_lt = distance-lt n (accept_of before g level) ((j + 1) % n) accept_in in
         let zero : distance n (accept_of before g level) ((j + 1) % n) ≡ 0 =
         elim (distance-next n (accept_of before g level) j accept_in j_in) [ inl beyond ↦ absurd (omega (arith, beyond, next_lt, full)) | inr at ↦ at.0 ] in
-        record { fewer = omega (arith, lost, full, more); nearer = omega (arith, lost, full, more, closer, apart, zero) }
+        record { fewer = omega (arith, lost, full, slot.more); nearer = omega (arith, lost, full, slot.more, closer, apart, zero) }
 
     -- the accept pointers of all others stay where none of them is matched
     others_stay : ((x z : ℕ) → (x ≡ i → ⊥) → Serves first x z level Uni → ⊥) → IsFarAmongFresh n level i j after
     others_stay none =
         record {
-          far = subst (λ p. distance n p i + 1 ≡ n) (sym (moved.grant_stays j level nobody)) base.far;
-          fresh = λ x x_in other. subst (λ p. distance n p j + 1 ≡ n) (sym (moved.accept_stays x level (λ z. none x z other))) (base.fresh x x_in other);
+          far = subst (λ p. distance n p i + 1 ≡ n) (sym (slot.moved.grant_stays j level nobody)) base.far;
+          fresh = λ x x_in other. subst (λ p. distance n p j + 1 ≡ n) (sym (slot.moved.accept_stays x level (λ z. none x z other))) (base.fresh x x_in other);
         }
 
     module _ (y : ℕ) (served : Serves first i y level Uni) (at_most : distance n (accept_of before i level) y ≤ distance n (accept_of before i level) j) where
@@ -248,8 +261,8 @@ module _ (n t level : ℕ) (rows : List Row) (first matched : List (Option Fed))
                   let taken : Serves first i ((j + 1) % n) level Uni = subst (λ z. Serves first i z level Uni) same served in
                   inr (record {
                     base = others_stay none;
-                    passed = subst (λ p. distance n p i + 1 ≡ n) (sym (moved.granted i ((j + 1) % n) level taken)) (distance-last n i i_in);
-                    next = inl (omega (arith, lost, full, more));
+                    passed = subst (λ p. distance n p i + 1 ≡ n) (sym (slot.moved.granted i ((j + 1) % n) level taken)) (distance-last n i i_in);
+                    next = inl (omega (arith, lost, full, slot.more));
                   })
             ]
           ]
@@ -257,14 +270,14 @@ module _ (n t level : ℕ) (rows : List Row) (first matched : List (Option Fed))
       -- where it is not, and output j + 1 points one beyond it
       alone_stale : (distance n (accept_of before i level) j + 1 ≡ n → ⊥) → HasPassed n level i j before → FallsByTwo i i j ⊎ Remains i j
       alone_stale stale passed =
-          let accept_in = pointing.accept i i_in in
+          let accept_in = slot.pointing.accept i i_in in
           let closer = nearer_by i y i_in served at_most in
           let turns_in = distance-lt n (accept_of before i level) j accept_in in
           let next_in : (j + 1) % n < n = mod_below (j + 1) n (omega arith) in
           elim (other_matched i) [
             | inl found ↦
                 let lost = one_lost i j i_in j_in base nobody found.0 found.3 (base.fresh found.0 found.1 found.2) found.4 in
-                inl (record { fewer = omega (arith, lost, closer, more); nearer = omega (arith, lost, closer, turns_in, stale) })
+                inl (record { fewer = omega (arith, lost, closer, slot.more); nearer = omega (arith, lost, closer, turns_in, stale) })
             | inr none ↦
                 let least = fresh-le i j i_in j_in base nobody in
                 let beyond : distance n (accept_of before i level) ((j + 1) % n) ≡ distance n (accept_of before i level) j + 1 =
@@ -279,8 +292,8 @@ module _ (n t level : ℕ) (rows : List Row) (first matched : List (Option Fed))
                 ] in
                 inr (record {
                   base = others_stay none;
-                  passed = subst (λ p. distance n p i + 1 ≡ n) (sym (moved.grant_stays ((j + 1) % n) level not_taken)) passed;
-                  next = inr (omega (arith, closer, more), least, nobody_asks i ((j + 1) % n) i_in next_in passed none);
+                  passed = subst (λ p. distance n p i + 1 ≡ n) (sym (slot.moved.grant_stays ((j + 1) % n) level not_taken)) passed;
+                  next = inr (omega (arith, closer, slot.more), least, nobody_asks i ((j + 1) % n) i_in next_in passed none);
                 })
           ]
 

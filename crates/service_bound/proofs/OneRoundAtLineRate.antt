@@ -25,7 +25,8 @@ use Rattle.service_bound.proofs.FirstRound.{grants_first, first_granted}
 use Rattle.service_bound.proofs.LaterRounds.{BeginsWith}
 use Rattle.service_bound.proofs.Granting.{IsQuietFor-clean, kind_is_first, served_by_first, refused}
 use Rattle.service_bound.proofs.InWindows.{AskOn}
-use Rattle.service_bound.proofs.LineRateClasses.{IsFarAmongFresh, IsAlone, IsBeside, IsLower, other_asks, apart_from_next, FallsByTwo, two_steps, alone_refused}
+use Rattle.service_bound.proofs.LineRateClasses.{IsFarAmongFresh, IsAlone, IsBeside, IsLower, IsOpening, other_asks, apart_from_next}
+use Rattle.service_bound.proofs.LineRateClasses.{FallsByTwo, two_steps, alone_refused}
 use Rattle.service_bound.proofs.OneRound.{silent_accepted, silent_for, silent_of, one_rank_of, IsNearest, tests_on, one_falls}
 
 module _ (n t level : ℕ) (rows : List Row) (matched : List (Option Fed)) (before after : Places) (level_in : level < LEVELS)
@@ -43,8 +44,11 @@ module _ (n t level : ℕ) (rows : List Row) (matched : List (Option Fed)) (befo
     abbrev FallsAtLineRate : Type 0
     FallsAtLineRate = IsTwoLess ⊎ ((one_rank_of n level after later i j h + 1 ≤ one_rank_of n level before rows i j g) × IsLower n level i j after later)
 
+    opened : IsOpening n t level rows matched matched before after
+    opened = record { level_in = level_in; begins = begins; moved = moved; pointing = pointing; clean = clean; alone = alone; more = more }
+
     abbrev Two : ℕ → Type 0
-    Two v = FallsByTwo n t level rows matched matched before after level_in begins.opening moved pointing clean alone more v i j
+    Two v = FallsByTwo n t level rows matched matched before after opened v i j
 
     falls_once : one_rank_of n level after later i j h + 1 ≤ one_rank_of n level before rows i j g
     falls_once = one_falls n t level rows matched before after level_in begins moved pointing later i j g h i_in j_in quiet named left on nearest next
@@ -142,7 +146,7 @@ module _ (n t level : ℕ) (rows : List Row) (matched : List (Option Fed)) (befo
           subst (λ v. distance n (accept_of before v level) y ≤ distance n (accept_of before v level) j) own at_most in
           let turns : distance n (accept_of before g level) j ≡ distance n (accept_of before i level) j =
           ap (λ v. distance n (accept_of before v level) j) own in
-          elim (alone_refused n t level rows matched matched before after level_in begins.opening moved pointing clean alone more i j i_in j_in base nobody y
+          elim (alone_refused n t level rows matched matched before after opened i j i_in j_in base nobody y
           own_served own_most now.passed) [
             | inl two ↦ inl (two_by_steps (subst Two (sym own) two)
                 (λ new. let other : h ≡ i → ⊥ = λ e. new (subst (λ v. h ≡ v) (sym own) e) in (other, silent_before h next.below other)))
@@ -202,7 +206,7 @@ module _ (n t level : ℕ) (rows : List Row) (matched : List (Option Fed)) (befo
           let differ : distance n (grant_of before j level) g ≡ distance n (grant_of before j level) i
           → ⊥ = λ d. other (distance-injective n (grant_of before j level) g i from_in nearest.below i_in d) in
           differ (omega (arith, far, least, place_in, of_h)) in
-          two_by_steps (two_steps n t level rows matched matched before after level_in begins.opening moved pointing clean alone more i j i_in j_in base
+          two_by_steps (two_steps n t level rows matched matched before after opened i j i_in j_in base
           nobody g y nearest.below served at_most full not_next)
           (λ new. (not_own, λ asks. elim (now.only h next.below asks) [ inl e ↦ not_own e | inr e ↦ new (subst (λ v. h ≡ v) (sym own) e) ]))
 

@@ -3,26 +3,24 @@ use Rattle.std.proofs.Common.{◌≡◌, ℕ, ◌+◌, ◌-◌, ◌%◌, ◌<◌
 use Rattle.std.proofs.lemmas.Bool.{cases_eq, cases_lt}
 use Rattle.rotating_pick.specs.Rotation.{distance}
 use Rattle.rotating_pick.specs.declared.kinds.Kind.TheVariants.{Uni}
-use Rattle.rotating_pick.specs.declared.limits.TheConstants.{LEVELS}
 use Rattle.rotating_pick.proofs.Circle.{distance-lt}
 use Rattle.rotating_pick.proofs.Picking.{IsFirstFrom-some, distance-injective}
 use Rattle.slot_match.specs.declared.rows.Row.{Row}
 use Rattle.slot_match.specs.declared.matching.Fed.{Fed}
 use Rattle.slot_match.specs.Rows.{Names, row_of}
 use Rattle.slot_match.specs.Matches.{Serves}
-use Rattle.pointer_state.specs.Places.{Places, ArePointing, grant_of, accept_of}
-use Rattle.eslip_rounds.specs.Slots.{AreMoved}
+use Rattle.pointer_state.specs.Places.{Places, grant_of, accept_of}
 use Rattle.eslip_rounds.proofs.Deciding.{Names-decides}
-use Rattle.service_bound.specs.Windows.{IsClean, IsWithoutMulticast, GainAtMostOne}
+use Rattle.service_bound.specs.Windows.{GainAtMostOne}
 use Rattle.service_bound.proofs.Distances.{distance-passed}
 use Rattle.service_bound.proofs.Fresh.{fresh_of, fresh-accepted}
 use Rattle.service_bound.proofs.Rank.{twice_rank, twice_rank-turns_twice, twice_rank-near_twice, twice_rank-near_by_two, twice_rank-far_twice}
 use Rattle.service_bound.proofs.FirstRound.{grants_first, first_granted}
-use Rattle.service_bound.proofs.LaterRounds.{BeginsWith}
 use Rattle.service_bound.proofs.Granting.{kind_is_first, served_by_first, refused}
 use Rattle.service_bound.proofs.InWindows.{AskOn}
 use Rattle.service_bound.proofs.RankFalls.{twice_rank_of, falls}
-use Rattle.service_bound.proofs.LineRateClasses.{IsFarAmongFresh, IsAlone, IsBeside, IsLower, other_asks, apart_from_next, FallsByTwo, two_steps, alone_refused}
+use Rattle.service_bound.proofs.LineRateClasses.{IsFarAmongFresh, IsAlone, IsBeside, IsLower, IsOpening, other_asks, apart_from_next}
+use Rattle.service_bound.proofs.LineRateClasses.{FallsByTwo, two_steps, alone_refused}
 
 -- By an input that asks next, the request's rank falls by two or more, or by one into rows of either class.
 pub record FallsLower (n level i j g : ℕ) (before after : Places) (later : List Row) : Type 0 where
@@ -32,30 +30,39 @@ pub record FallsLower (n level i j g : ℕ) (before after : Places) (later : Lis
   pub lower : (twice_rank_of n level after i j input + 4 ≤ twice_rank_of n level before i j g)
       ⊎ ((twice_rank_of n level after i j input + 2 ≤ twice_rank_of n level before i j g) × IsLower n level i j after later)
 
-module _ (n t level : ℕ) (rows : List Row) (first matched : List (Option Fed)) (before after : Places) (level_in : level < LEVELS)
-    (begins : BeginsWith n t rows before first matched) (moved : AreMoved n t rows first matched before after) (pointing : ArePointing n level before)
-    (clean : IsClean n level rows) (alone : IsWithoutMulticast n level rows) (more : 2 < n) where
-  module _ (later : List Row) (i j g : ℕ) (i_in : i < n) (j_in : j < n) (g_in : g < n) (named : Names (row_of rows i) level Uni j)
-      (asking : Names (row_of rows g) level Uni j) (left : Serves matched i j level Uni → ⊥) (on : AskOn n level matched rows later j)
-      (gains : GainAtMostOne n level rows later) where
+-- Input i's request for output j is left in a slot, where input g asks for output j too. The rows that come next keep it, at line rate.
+pub record IsLeft (n level : ℕ) (rows : List Row) (matched : List (Option Fed)) (later : List Row) (i j g : ℕ) : Type 0 where
+  pub input_in : i < n
+  pub output_in : j < n
+  pub other_in : g < n
+  pub named : Names (row_of rows i) level Uni j
+  pub asks : Names (row_of rows g) level Uni j
+  pub left : Serves matched i j level Uni → ⊥
+  pub on : AskOn n level matched rows later j
+  pub gains : GainAtMostOne n level rows later
+
+module _ (n t level : ℕ) (rows : List Row) (first matched : List (Option Fed)) (before after : Places)
+    (slot : IsOpening n t level rows first matched before after) where
+  module _ (later : List Row) (i j g : ℕ) (request : IsLeft n level rows matched later i j g) where
     abbrev Two : ℕ → Type 0
-    Two v = FallsByTwo n t level rows first matched before after level_in begins.opening moved pointing clean alone more v i j
+    Two v = FallsByTwo n t level rows first matched before after slot v i j
 
     -- by one, whatever the class, into rows of either
     once : IsLower n level i j after later → FallsLower n level i j g before after later
     once into =
-        let by = falls n t level rows first matched before after level_in begins moved pointing clean alone i j g i_in j_in g_in named asking left in
-        record { input = by.0; input_in = by.1.input_in; asks = on by.0 by.1.input_in by.1.asks by.1.left; lower = inr (by.1.lower, into) }
+        let by = falls n t level rows first matched before after slot.level_in slot.begins slot.moved slot.pointing slot.clean slot.alone i j g
+        request.input_in request.output_in request.other_in request.named request.asks request.left in
+        record { input = by.0; input_in = by.1.input_in; asks = request.on by.0 by.1.input_in by.1.asks by.1.left; lower = inr (by.1.lower, into) }
 
     -- any other is nearer than input i
     nearer_than : IsFarAmongFresh n level i j before → (x : ℕ) → x < n → (x ≡ i → ⊥)
         → distance n (grant_of before j level) x < distance n (grant_of before j level) i
     nearer_than base x x_in other =
-        let from_in = pointing.grant j j_in in
+        let from_in = slot.pointing.grant j request.output_in in
         let place_in = distance-lt n (grant_of before j level) x from_in in
         let far = base.far in
         let differ : distance n (grant_of before j level) x ≡ distance n (grant_of before j level) i
-        → ⊥ = λ e. other (distance-injective n (grant_of before j level) x i from_in x_in i_in e) in
+        → ⊥ = λ e. other (distance-injective n (grant_of before j level) x i from_in x_in request.input_in e) in
         omega (arith, far, place_in, differ)
 
     module _ (base : IsFarAmongFresh n level i j before) (nobody : (x : ℕ) → Serves first x j level Uni → ⊥) where
@@ -64,7 +71,7 @@ module _ (n t level : ℕ) (rows : List Row) (first matched : List (Option Fed))
           (distance n (accept_of after x level) j) (fresh_of n level after i j) + 4 ≤ twice_rank_of n level before i j g
           → twice_rank_of n level after i j x + 4 ≤ twice_rank_of n level before i j g
       there x lower = subst (λ p. twice_rank n (distance n p i) (distance n p x) (distance n (accept_of after x level) j)
-          (fresh_of n level after i j) + 4 ≤ twice_rank_of n level before i j g) (sym (moved.grant_stays j level nobody)) lower
+          (fresh_of n level after i j) + 4 ≤ twice_rank_of n level before i j g) (sym (slot.moved.grant_stays j level nobody)) lower
 
       -- where the input made two steps
       by_steps : Two g → twice_rank_of n level after i j g + 4 ≤ twice_rank_of n level before i j g
@@ -95,17 +102,17 @@ module _ (n t level : ℕ) (rows : List Row) (first matched : List (Option Fed))
       from_alone : IsAlone n level i j before rows → (y : ℕ) → Serves first i y level Uni
           → distance n (accept_of before i level) y ≤ distance n (accept_of before i level) j → FallsLower n level i j g before after later
       from_alone now y served at_most =
-          let own : g ≡ i = now.only g g_in asking in
+          let own : g ≡ i = now.only g request.other_in request.asks in
           let turns : distance n (accept_of before g level) j ≡ distance n (accept_of before i level) j =
           ap (λ v. distance n (accept_of before v level) j) own in
           let place : distance n (grant_of before j level) g ≡ distance n (grant_of before j level) i = ap (distance n (grant_of before j level)) own in
           let silent_before : (x : ℕ) → x < n → (x ≡ i → ⊥) → Names (row_of rows x) level Uni j → ⊥ = λ x x_in other asks. other (now.only x x_in asks) in
-          elim (alone_refused n t level rows first matched before after level_in begins.opening moved pointing clean alone more i j i_in j_in base nobody y
+          elim (alone_refused n t level rows first matched before after slot i j request.input_in request.output_in base nobody y
           served at_most now.passed) [
             | inl two ↦ record {
               input = g;
-              input_in = g_in;
-              asks = on g g_in asking (subst (λ v. Serves matched v j level Uni → ⊥) (sym own) left);
+              input_in = request.other_in;
+              asks = request.on g request.other_in request.asks (subst (λ v. Serves matched v j level Uni → ⊥) (sym own) request.left);
               lower = inl (by_steps (subst Two (sym own) two));
             }
             | inr rest ↦ elim (other_asks n level later j i i) [
@@ -128,7 +135,7 @@ module _ (n t level : ℕ) (rows : List Row) (first matched : List (Option Fed))
                           let also_less = nearer_than base second.0 second.1 second.2.0 in
                           let differ : distance n (grant_of before j level) second.0 ≡ distance n (grant_of before j level) found.0
                           → ⊥ = λ e. second.2.1 (distance-injective n (grant_of before j level) second.0 found.0
-                          (pointing.grant j j_in) second.1 found.1 e) in
+                          (slot.pointing.grant j request.output_in) second.1 found.1 e) in
                           let some : 1 ≤ min (distance n (accept_of before g level) j) (n - 2) = let here = stale.0 in omega (arith, here, turns) in
                           elim (cases_lt (distance n (grant_of before j level) found.0) (distance n (grant_of before j level) second.0)) [
                             | inl before_it ↦ record {
@@ -154,8 +161,8 @@ module _ (n t level : ℕ) (rows : List Row) (first matched : List (Option Fed))
                               other = found.2.0;
                               asks = found.3;
                               only = only;
-                              not_next = λ also. apart_from_next n j more j_in
-                                  (gains found.0 found.1 j ((j + 1) % n) found.3 also (silent_before found.0 found.1 found.2.0) not_asked);
+                              not_next = λ also. apart_from_next n j slot.more request.output_in
+                                  (request.gains found.0 found.1 j ((j + 1) % n) found.3 also (silent_before found.0 found.1 found.2.0) not_asked);
                             },
                           ))
                     ]
@@ -168,15 +175,15 @@ module _ (n t level : ℕ) (rows : List Row) (first matched : List (Option Fed))
           → distance n (accept_of before x level) y ≤ distance n (accept_of before x level) j → FallsLower n level i j g before after later
       from_beside x now y served asked at_most =
           let full : distance n (accept_of before x level) j + 1 ≡ n = base.fresh x now.below now.other in
-          let two = two_steps n t level rows first matched before after level_in begins.opening moved pointing clean alone more i j i_in j_in base nobody x y
+          let two = two_steps n t level rows first matched before after slot i j request.input_in request.output_in base nobody x y
           now.below served at_most full (λ same. now.not_next (subst (Names (row_of rows x) level Uni) same asked)) in
           let steps = two.nearer in
           let less = nearer_than base x now.below now.other in
           record {
             input = x;
             input_in = now.below;
-            asks = on x now.below now.asks (λ taken. nobody x (begins.no_more x y j level level Uni served taken));
-            lower = inl (elim (now.only g g_in asking) [
+            asks = request.on x now.below now.asks (λ taken. nobody x (slot.begins.no_more x y j level level Uni served taken));
+            lower = inl (elim (now.only g request.other_in request.asks) [
               | inl own ↦
                   let place : distance n (grant_of before j level) g ≡ distance n (grant_of before j level) i = ap (distance n (grant_of before j level)) own in
                   by_nearer x (omega (arith, less, place)) (omega (arith, steps))
@@ -187,28 +194,30 @@ module _ (n t level : ℕ) (rows : List Row) (first matched : List (Option Fed))
     -- class B: the other input x takes the output
     from_accepted : (x : ℕ) → IsBeside n level i j before rows x → Serves first x j level Uni → FallsLower n level i j g before after later
     from_accepted x now served =
-        let from_in = pointing.grant j j_in in
+        let from_in = slot.pointing.grant j request.output_in in
         let ahead = nearer_than now.base x now.below now.other in
-        let passed = distance-passed n (grant_of before j level) x i from_in now.below i_in ahead in
-        let place = moved.granted x j level served in
-        let no_fresher = fresh-accepted n t level rows first matched begins.opening.count before after moved pointing i j i_in j_in x now.below served ahead in
-        let some : 1 ≤ distance n (grant_of before j level) g + min (distance n (accept_of before g level) j) (n - 2) = elim (now.only g g_in asking) [
+        let passed = distance-passed n (grant_of before j level) x i from_in now.below request.input_in ahead in
+        let place = slot.moved.granted x j level served in
+        let no_fresher = fresh-accepted n t level rows first matched slot.begins.opening.count before after slot.moved slot.pointing i j
+        request.input_in request.output_in x now.below served ahead in
+        let some : 1 ≤ distance n (grant_of before j level) g + min (distance n (accept_of before g level) j) (n - 2) =
+        elim (now.only g request.other_in request.asks) [
           | inl own ↦ let e : distance n (grant_of before j level) g ≡ distance n (grant_of before j level) i =
               ap (distance n (grant_of before j level)) own in omega (arith, e, ahead)
           | inr own ↦
               let e : distance n (accept_of before g level) j ≡ distance n (accept_of before x level) j =
               ap (λ v. distance n (accept_of before v level) j) own in
               let full = now.base.fresh x now.below now.other in
-              omega (arith, e, full, more)
+              omega (arith, e, full, slot.more)
         ] in
         let lower = twice_rank-far_twice n (distance n (grant_of before j level) i) (distance n (grant_of before j level) g)
         (distance n (accept_of before g level) j) (fresh_of n level before i j)
         (distance n ((x + 1) % n) i) (distance n ((x + 1) % n) i) (distance n (accept_of after i level) j) (fresh_of n level after i j)
-        (omega (arith, passed)) (omega arith) no_fresher more some in
+        (omega (arith, passed)) (omega arith) no_fresher slot.more some in
         record {
           input = i;
-          input_in = i_in;
-          asks = on i i_in named left;
+          input_in = request.input_in;
+          asks = request.on i request.input_in request.named request.left;
           lower = inl (subst (λ p. twice_rank n (distance n p i) (distance n p i) (distance n (accept_of after i level) j)
               (fresh_of n level after i j) + 4 ≤ twice_rank_of n level before i j g) (sym place) lower);
         }
@@ -216,21 +225,23 @@ module _ (n t level : ℕ) (rows : List Row) (first matched : List (Option Fed))
     -- from rows of either class
     pub falls_lower : IsLower n level i j before rows → FallsLower n level i j g before after later
     falls_lower lower =
-        let first_kind = kind_is_first n t level rows first before level_in begins.opening pointing clean alone in
+        let first_kind = kind_is_first n t level rows first before slot.level_in slot.begins.opening slot.pointing slot.clean slot.alone in
         let nearest = IsFirstFrom-some n (grant_of before j level) (λ x. Names (row_of rows x) level Uni j) (λ x. Names-decides (row_of rows x) level Uni j)
-        (pointing.grant j j_in) g g_in asking in
+        (slot.pointing.grant j request.output_in) g request.other_in request.asks in
         let h = nearest.0 in
-        let granted = grants_first n t rows before level level_in clean Uni first_kind h j j_in nearest.1 in
-        let met = served_by_first n t level rows first before level_in begins.opening pointing clean alone h j nearest.1.below granted in
-        let at_most = met.1.least j j_in granted in
-        let asked = (first_granted n t rows before level level_in clean Uni first_kind h met.0 met.1.member).member in
+        let granted = grants_first n t rows before level slot.level_in slot.clean Uni first_kind h j request.output_in nearest.1 in
+        let met = served_by_first n t level rows first before slot.level_in slot.begins.opening slot.pointing slot.clean slot.alone h j nearest.1.below
+        granted in
+        let at_most = met.1.least j request.output_in granted in
+        let asked = (first_granted n t rows before level slot.level_in slot.clean Uni first_kind h met.0 met.1.member).member in
         let refuses : (met.0 ≡ j → ⊥) → (x : ℕ) → Serves first x j level Uni
-        → ⊥ = λ other. refused n t level rows first before level_in begins.opening pointing clean alone h j met.0 nearest.1.below j_in granted met.1 other in
+        → ⊥ = λ other. refused n t level rows first before slot.level_in slot.begins.opening slot.pointing slot.clean slot.alone h j met.0
+        nearest.1.below request.output_in granted met.1 other in
         elim lower [
           | inl now ↦
               let own : h ≡ i = now.only h nearest.1.below nearest.1.member in
               let served : Serves first i met.0 level Uni = subst (λ v. Serves first v met.0 level Uni) own met.2 in
-              let other : met.0 ≡ j → ⊥ = λ same. left (begins.stays i j level Uni (subst (λ v. Serves first i v level Uni) same served)) in
+              let other : met.0 ≡ j → ⊥ = λ same. request.left (slot.begins.stays i j level Uni (subst (λ v. Serves first i v level Uni) same served)) in
               from_alone now.base (refuses other) now met.0 served
               (subst (λ v. distance n (accept_of before v level) met.0 ≤ distance n (accept_of before v level) j) own at_most)
           | inr late ↦

@@ -1,6 +1,6 @@
 -- Over a window at line rate, for three ports or more and any number of rounds: a request is served one slot sooner than in general.
 use Rattle.std.proofs.Common.{◌≡◌, ℕ, ◌+◌, ◌-◌, ◌*◌, ◌<◌, ◌≤◌, ◌⊎◌, min, List, length, map, All, Any, ap, inl, inr, arith}
-use Rattle.std.proofs.lemmas.Bool.{cases_eq, cases_lt}
+use Rattle.std.proofs.lemmas.Bool.{cases_lt}
 use Rattle.rotating_pick.specs.Rotation.{distance}
 use Rattle.rotating_pick.specs.declared.kinds.Kind.TheVariants.{Uni}
 use Rattle.rotating_pick.proofs.Circle.{distance-lt}
@@ -15,11 +15,11 @@ use Rattle.service_bound.specs.Windows.{IsWithoutMulticast, InFirst, GainAtMostO
 use Rattle.service_bound.specs.Waits.{noted_of, longest_wait, longest_service}
 use Rattle.service_bound.proofs.Fresh.{fresh_for, fresh_of, fresh_of-most}
 use Rattle.service_bound.proofs.LaterRounds.{first_of, BeginsWith-slot}
-use Rattle.service_bound.proofs.InWindows.{AskOn, AreMoved-keep, IsWindowSlot}
+use Rattle.service_bound.proofs.InWindows.{AreMoved-keep}
 use Rattle.service_bound.proofs.Rank.{twice_longest, twice_rank-short, twice_rank-bound}
 use Rattle.service_bound.proofs.RankFalls.{twice_rank_of, falls_in_slot, twice_rank_of-bound}
 use Rattle.service_bound.proofs.LineRateClasses.{IsLower, other_asks}
-use Rattle.service_bound.proofs.RankAtLineRate.{FallsLower, falls_lower}
+use Rattle.service_bound.proofs.RankAtLineRate.{falls_lower}
 use Rattle.service_bound.proofs.OneRoundServedAtLineRate.{ones_of, gains_nothing}
 use Rattle.service_bound.proofs.Falling.{IsFallingWhere, served_where, longest_where}
 
@@ -94,18 +94,7 @@ lower-more n level places rows i j g more lower = elim lower [
   | inr late ↦ let far = late.1.base.far in omega (arith, far, more)
 ]
 
--- what a slot of a window makes of it
-lower_after : (n rounds t level : ℕ) (places : Places) (slot : DecidedSlot) → 2 < n → 0 < rounds → IsWindowSlot n rounds t level places slot
-    → IsWithoutMulticast n level slot.rows → (later : List Row) (i j g : ℕ) → i < n → g < n → Names (row_of slot.rows i) level Uni j
-    → Names (row_of slot.rows g) level Uni j → (Serves slot.decision.matched i j level Uni → ⊥)
-    → AskOn n level slot.decision.matched slot.rows later j → GainAtMostOne n level slot.rows later → IsLower n level i j places slot.rows
-    → FallsLower n level i j g places slot.decision.places later
-lower_after n rounds t level places slot more some now alone later i j g i_in g_in named asking left on gains =
-    falls_lower n t level slot.rows (first_of n now.decided.steps) slot.decision.matched places slot.decision.places
-    (now.within.levels i i_in level j Uni named)
-    (BeginsWith-slot n t slot.rows places AreMoved rounds slot.decision some now.decided) now.decided.moved now.pointing now.clean alone more later i j g i_in
-    (now.within.ports i i_in level j Uni named) g_in named asking left on gains
-
+-- a slot of a window that leaves the request makes the rank lower
 lower_falls : (n rounds level i j : ℕ) → 2 < n → 0 < rounds → i < n
     → IsFallingWhere (GainAtMostOne n level) AreMoved n rounds level i j (longest_service n - 1) (AsksByLower n level i j)
 lower_falls n rounds level i j more rounds_some i_in =
@@ -130,8 +119,24 @@ lower_falls n rounds level i j more rounds_some i_in =
                 }
             | inr lower ↦
                 let within = lower.0 in
-                let by = lower_after n rounds t level places slot more rounds_some now alone later i j asks.input i_in asks.input_in asks.named asks.asks left
-                on gains lower.1 in
+                let by = falls_lower n t level slot.rows (first_of n now.decided.steps) slot.decision.matched places slot.decision.places (record {
+                  level_in = now.within.levels i i_in level j Uni asks.named;
+                  begins = BeginsWith-slot n t slot.rows places AreMoved rounds slot.decision rounds_some now.decided;
+                  moved = now.decided.moved;
+                  pointing = now.pointing;
+                  clean = now.clean;
+                  alone = alone;
+                  more = more;
+                }) later i j asks.input (record {
+                  input_in = i_in;
+                  output_in = now.within.ports i i_in level j Uni asks.named;
+                  other_in = asks.input_in;
+                  named = asks.named;
+                  asks = asks.asks;
+                  left = left;
+                  on = on;
+                  gains = gains;
+                }) lower.1 in
                 record {
                   named = here;
                   input = by.input;
