@@ -6,7 +6,7 @@ use Rattle.std.proofs.Math.Nat.{mod-eq_of_lt}
 use Rattle.std_lemmas.proofs.Numbers.{square-is, mod_once}
 use Rattle.rotating_pick.specs.Rotation.{distance}
 use Rattle.rotating_pick.specs.declared.limits.TheConstants.{MAX_PORTS}
-use Rattle.pointer_state.specs.Places.{Places, grant_of}
+use Rattle.pointer_state.specs.Places.{grant_of}
 use Rattle.eslip_rounds.specs.Schedules.{DecidedSlot}
 use Rattle.scheduler_laws.specs.Reached.{AreFedAtLineRate}
 use Rattle.scheduler_laws.specs.ReachedByFirm.{ComesLastByFirmAtLineRate}
@@ -15,7 +15,7 @@ use Rattle.scheduler_laws.proofs.PlannedSlots.{AreNear}
 use Rattle.scheduler_laws.proofs.NextPlans.{Follows, Starts}
 use Rattle.scheduler_laws.proofs.Shapes.{takes, ends, suits_takes, at_first}
 use Rattle.scheduler_laws.proofs.OneRoundFamily.{downs, length-downs, starts_more, follows_downs}
-use Rattle.scheduler_laws.proofs.FirmSlots.{firm_decided, IsSwitch-after_firm, IsFirmLate, firm_step_of, late_alone}
+use Rattle.scheduler_laws.proofs.FirmSlots.{firm_decided, IsSwitch-after_firm, AreFirmLate, firm_step_of, late_alone}
 use Rattle.scheduler_laws.proofs.FirmTurns.{hands, IsTurn, late_hands, late_lowers, firm_late_comes}
 
 -- the input whose turn is first, of the k inputs from x on and input 0
@@ -96,13 +96,12 @@ module _ (n : ℕ) (two : 1 < n) where
   some = omega arith
 
   -- input x goes down, and output 0 points at it all the while
-  late_downs : (x : ℕ) (rest : List Plan) → 0 < x → x < n → Starts (Follows (takes x (n - 1))) rest
-      → ((t : ℕ) (places : Places) → IsTurn n places x n → IsFirmLate 1 n t places rest)
-      → (k a t : ℕ) (places : Places) → 0 < a → a + k ≡ n → IsTurn n places x a → IsFirmLate 1 n t places (downs x a k rest)
-  late_downs x rest some_x x_in starts then zero a t places some_a sum turn =
+  late_downs : (x : ℕ) (rest : List Plan) → 0 < x → x < n → Starts (Follows (takes x (n - 1))) rest → AreFirmLate 1 n (IsTurn n x n) rest
+      → (k a : ℕ) → 0 < a → a + k ≡ n → AreFirmLate 1 n (IsTurn n x a) (downs x a k rest)
+  late_downs x rest some_x x_in starts then zero a some_a sum t places turn =
       let e : a ≡ n = omega arith in
-      then t places (subst (λ v. IsTurn n places x v) e turn)
-  late_downs x rest some_x x_in starts then (suc k) a t places some_a sum turn =
+      then t places (subst (λ v. IsTurn n x v places) e turn)
+  late_downs x rest some_x x_in starts then (suc k) a some_a sum t places turn =
       let a_in : a < n = omega arith in
       let it = takes x a in
       let suits = suits_takes n places x a x_in some_a a_in (inr (some_x, turn.grant)) (turn.accept ∙ mod-eq_of_lt a_in) in
@@ -111,7 +110,7 @@ module _ (n : ℕ) (two : 1 < n) where
       let near : (v : ℕ) → distance n (grant_of places 0 0) x ≤ distance n (grant_of places 0 0) v = λ v. at_first n
       (grant_of places 0 0) x v x_in turn.grant in
       let nearest : AreNear n places it x 0 = (λ e. near 0, (λ e. near x, (λ e. near x, tt))) in
-      let next : IsTurn n after x (a + 1) = record {
+      let next : IsTurn n x (a + 1) after = record {
         switch = IsSwitch-after_firm 1 n t places it turn.switch;
         grant = step.held x 0 (x_in, some, inr (inl (refl, refl))) nearest (λ is. elim is [ inl s ↦ let e = s.1 in omega arith | inr none ↦ none ]);
         accept = step.accepted x a (inl (refl, refl));
@@ -119,7 +118,7 @@ module _ (n : ℕ) (two : 1 < n) where
       } in
       late_alone 1 n t places it some (omega arith) turn.switch suits (downs x (a + 1) k rest) refl
       (λ is. elim is [ inl s ↦ let e = s.1 in omega arith | inr none ↦ none ]) (follows_downs x a k (n - 1) rest some_a (omega arith) starts)
-      (late_downs x rest some_x x_in starts then k (a + 1) (t + 1) after (omega arith) (omega arith) next)
+      (late_downs x rest some_x x_in starts then k (a + 1) (omega arith) (omega arith) (t + 1) after next)
 
   -- the input whose turn is next is one beyond
   whose_next : (k x : ℕ) → x + suc k ≡ n → (x + 1) % n ≡ whose (x + 1) k
@@ -127,22 +126,21 @@ module _ (n : ℕ) (two : 1 < n) where
   whose_next (suc k) x sum = mod-eq_of_lt (omega arith)
 
   -- and another
-  whose_in : (k x : ℕ) → 0 < x → x + suc k ≡ n → (whose (x + 1) k < n) × (whose (x + 1) k ≡ x → ⊥)
-  whose_in zero x some_x sum = (some, λ e. omega arith)
-  whose_in (suc k) x some_x sum = (omega arith, λ e. omega arith)
+  whose_other : (k x : ℕ) → 0 < x → x + suc k ≡ n → whose (x + 1) k ≡ x → ⊥
+  whose_other zero x some_x sum e = omega arith
+  whose_other (suc k) x some_x sum e = omega arith
 
   -- the turns of the k inputs from x on, and that of input 0
-  late_turns : (k x t : ℕ) (places : Places) → 0 < x → x + k ≡ n → IsTurn n places (whose x k) 1 → IsFirmLate 1 n t places (turns n x k)
-  late_turns zero x t places some_x sum turn =
+  late_turns : (k x : ℕ) → 0 < x → x + k ≡ n → AreFirmLate 1 n (IsTurn n (whose x k) 1) (turns n x k)
+  late_turns zero x some_x sum t places turn =
       late_lowers 1 n (omega arith) two (n - 1) 1 t places (omega arith) (omega arith) turn.switch turn.grant turn.accept
-  late_turns (suc k) x t places some_x sum turn =
+  late_turns (suc k) x some_x sum t places turn =
       let w = whose (x + 1) k in
-      let next = whose_in k x some_x sum in
       late_downs x (hands x w ∷ turns n (x + 1) k) some_x (omega arith) (takes_hands x (n - 1) w (omega arith))
-      (λ t places turn. late_hands 1 n (omega arith) two x w n t places (turns n (x + 1) k) some_x (omega arith) next.0 next.1 (whose_next k x sum) turn
-      (starts_turns (Follows (hands x w)) n k (x + 1) two (hands_takes x w some_x next.1))
-      (λ after turn. late_turns k (x + 1) (t + 1) after (omega arith) (omega arith) turn))
-      (n - 1) 1 t places (omega arith) (omega arith) turn
+      (late_hands 1 n (omega arith) two x w n (turns n (x + 1) k) some_x (omega arith) (whose_next k x sum)
+      (starts_turns (Follows (hands x w)) n k (x + 1) two (hands_takes x w some_x (whose_other k x some_x sum)))
+      (late_turns k (x + 1) (omega arith) (omega arith)))
+      (n - 1) 1 (omega arith) (omega arith) t places turn
 
 -- the turns of all inputs come at line rate
 pub firm_comes_at_line_rate : (n : ℕ) → 1 < n → n ≤ MAX_PORTS
@@ -153,4 +151,4 @@ firm_comes_at_line_rate n two size =
     let starts = starts_turns (Follows (hands 0 1)) n (n - 1) 1 two
     (subst (λ w. Follows (hands 0 1) (takes w 1)) (sym whose_is) (hands_first 1 (omega arith))) in
     firm_late_comes 1 n (omega arith) two (turns n 1 (n - 1)) starts size (λ l. l ≡ n * n) (length-family n (omega arith))
-    (λ t places turn. late_turns n two (n - 1) 1 t places (omega arith) (omega arith) (subst (λ w. IsTurn n places w 1) (sym whose_is) turn))
+    (λ t places turn. late_turns n two (n - 1) 1 (omega arith) (omega arith) t places (subst (λ w. IsTurn n w 1 places) (sym whose_is) turn))

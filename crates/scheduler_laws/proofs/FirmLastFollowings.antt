@@ -186,10 +186,10 @@ blocking_one n l a b y z v apart = record {
   doubled = tt;
 }
 
--- input 2 takes the output that it refused, and input 1 asks another
-pub blocking_turns : (n l a b u v y c w : ℕ) → AreApartHere n l a b l u v → Follows (blocking l a b l u v) (blocking l y l c 1 w)
-blocking_turns n l a b u v y c w apart = record {
-  asking = blocking_asks l a b l u v;
+-- input 2 takes the output that it refused, and input 1 asks output 2
+pub blocking_turns : (n l a b y : ℕ) → AreApartHere n l a b l 1 1 → Follows (blocking l a b l 1 1) (blocking l y l 1 1 2)
+blocking_turns n l a b y apart = record {
+  asking = blocking_asks l a b l 1 1;
   kept = (
     inr (inl (refl, refl)),
     (
@@ -206,15 +206,15 @@ blocking_turns n l a b u v y c w apart = record {
       ),
     ),
   );
-  gains = pair l y ∷ pair 2 c ∷ pair 0 c ∷ pair 1 w ∷ [];
+  gains = pair l y ∷ pair 2 1 ∷ pair 0 1 ∷ pair 1 2 ∷ [];
   gained = (
-    inl (left_zero n l a b l u v apart),
+    inl (left_zero n l a b l 1 1 apart),
     (
-      inl (left_last n l a b l u v apart),
+      inl (left_last n l a b l 1 1 apart),
       (
         inr (inl (refl, refl)),
         (
-          inl (left_refused n l a b l u v apart),
+          inl (left_refused n l a b l 1 1 apart),
           (
             inr (inr (inl (refl, refl))),
             (inr (inr (inr (inl (refl, refl)))), (inr (inr (inr (inr (inl (refl, refl))))), tt)),
@@ -223,15 +223,15 @@ blocking_turns n l a b u v y c w apart = record {
       ),
     ),
   );
-  apart = four_apart l y c c w apart.high;
+  apart = four_apart l y 1 1 2 apart.high;
   held = tt;
   doubled = tt;
 }
 
 -- and once more
-pub blocking_turns_on : (n l a b c u v y d : ℕ) → AreApartHere n l a b c u v → Follows (blocking l a b c u v) (blocking l y c d 2 c)
-blocking_turns_on n l a b c u v y d apart = record {
-  asking = blocking_asks l a b c u v;
+pub blocking_turns_on : (n l a b y : ℕ) → AreApartHere n l a b 1 1 2 → Follows (blocking l a b 1 1 2) (blocking l y 1 2 2 1)
+blocking_turns_on n l a b y apart = record {
+  asking = blocking_asks l a b 1 1 2;
   kept = (
     inr (inl (refl, refl)),
     (
@@ -248,24 +248,24 @@ blocking_turns_on n l a b c u v y d apart = record {
       ),
     ),
   );
-  gains = pair l y ∷ pair 2 d ∷ pair 0 d ∷ [];
+  gains = pair l y ∷ pair 2 2 ∷ pair 0 2 ∷ [];
   gained = (
-    inl (left_zero n l a b c u v apart),
+    inl (left_zero n l a b 1 1 2 apart),
     (
-      inl (left_last n l a b c u v apart),
+      inl (left_last n l a b 1 1 2 apart),
       (
         inr (inl (refl, refl)),
         (
-          inl (left_refused n l a b c u v apart),
+          inl (left_refused n l a b 1 1 2 apart),
           (
             inr (inr (inl (refl, refl))),
-            (inr (inr (inr (inl (refl, refl)))), (inl (left_refused n l a b c u v apart), tt)),
+            (inr (inr (inr (inl (refl, refl)))), (inl (left_refused n l a b 1 1 2 apart), tt)),
           ),
         ),
       ),
     ),
   );
-  apart = last_apart l y d 0 d apart.high (omega arith);
+  apart = last_apart l y 2 0 2 apart.high (omega arith);
   held = tt;
   doubled = tt;
 }

@@ -14,12 +14,12 @@ use Rattle.scheduler_laws.proofs.Plans.{Plan}
 use Rattle.scheduler_laws.proofs.PlannedSlots.{AreNear}
 use Rattle.scheduler_laws.proofs.NextPlans.{Follows, Starts}
 use Rattle.scheduler_laws.proofs.Shapes.{ends, suits_ends, at_first}
-use Rattle.scheduler_laws.proofs.MoreShapes.{shares, suits_shares}
+use Rattle.scheduler_laws.proofs.MoreShapes.{shares, CanShare, suits_shares}
 use Rattle.scheduler_laws.proofs.MoreFollowings.{shares_shares}
 use Rattle.scheduler_laws.proofs.OneRoundFamily.{downs, length-downs, starts_more}
 use Rattle.scheduler_laws.proofs.MoreRoundsFamily.{sharings, starts_more_sharings}
 use Rattle.scheduler_laws.proofs.MoreOpenings.{length-sharings}
-use Rattle.scheduler_laws.proofs.FirmSlots.{firm_decided, IsSwitch-after_firm, IsFirmLate, firm_step_of, late_first}
+use Rattle.scheduler_laws.proofs.FirmSlots.{firm_decided, IsSwitch-after_firm, IsFirmLate, AreFirmLate, firm_step_of, late_first}
 use Rattle.scheduler_laws.proofs.FirmTurns.{hands, IsTurn, late_lowers, firm_late_comes}
 use Rattle.scheduler_laws.proofs.FirmMoreShapes.{nearer}
 use Rattle.scheduler_laws.proofs.Settled.{settles_ends, settles_shares}
@@ -46,7 +46,7 @@ length-family n l m e =
     ap (λ v. v + 1) (all ∙ ap (λ v. v * n + length (shares 2 l 1 ∷ sharings 1 l 2 (n - 2) (final n l 2))) few) ∙ omega (arith, rest) ∙ sum
 
 -- Output 0 points at input l, which points at output a. A port n is port 0.
-record IsLast (n : ℕ) (places : Places) (l a : ℕ) : Type 0 where
+record IsLast (n l a : ℕ) (places : Places) : Type 0 where
   switch : IsSwitch n places
   grant : grant_of places 0 0 ≡ l
   accept : accept_of places l 0 ≡ a % n
@@ -76,58 +76,75 @@ module _ (rounds n l : ℕ) (two : 1 < rounds) (ports : 1 < n) (sum : l + 1 ≡ 
       (step.accept_stays 0 (λ j is. elim is [ inl s ↦ let e = s.0 in omega arith | inr none ↦ none ]) ∙ at ∙ sym (mod-eq_of_lt a_in)))
 
   -- input l takes output a, and input 0 output z
-  late_shared : (z a t : ℕ) (places : Places) (rest : List Plan) → 0 < z → z < n → 0 < a → a < n → (a ≡ z → ⊥) → IsLast n places l a
-      → Starts (Follows (shares z l a)) rest
-      → ((after : Places) → IsLast n after l (a + 1) → accept_of after 0 0 ≡ (z + 1) % n → IsFirmLate rounds n (t + 1) after rest)
-      → IsFirmLate rounds n t places (shares z l a ∷ rest)
-  late_shared z a t places rest some_z z_in some_a a_in other last starts then =
+  late_shared : (z a : ℕ) (rest : List Plan) → CanShare n z l a → Starts (Follows (shares z l a)) rest
+      → AreFirmLate rounds n (λ after. IsLast n l (a + 1) after × (accept_of after 0 0 ≡ (z + 1) % n)) rest
+      → AreFirmLate rounds n (IsLast n l a) (shares z l a ∷ rest)
+  late_shared z a rest can starts then t places last =
       let it = shares z l a in
       let from = grant_of places 0 0 in
-      let suits = suits_shares n places z l a (omega arith) (omega arith) some_a a_in some_z z_in other
-      (nearer n from l 0 (omega arith) some (λ e. omega arith) last.grant) (last.accept ∙ mod-eq_of_lt a_in) in
+      let suits = suits_shares n places z l a can (nearer n from l 0 (omega arith) some (λ e. omega arith) last.grant)
+      (last.accept ∙ mod-eq_of_lt can.y_in) in
       let step = firm_step_of rounds n t places it some some_rounds last.switch suits in
       let after = (firm_decided rounds n t places it).places in
       let to_l : (v : ℕ) → distance n from l ≤ distance n from v = λ v. at_first n from l v (omega arith) last.grant in
       let nearest : AreNear n places it l 0 = (λ e. to_l 0, (λ e. to_l l, (λ e. to_l l, (λ e. to_l 0, tt)))) in
-      let next : IsLast n after l (a + 1) = record {
+      let next : IsLast n l (a + 1) after = record {
         switch = IsSwitch-after_firm rounds n t places it last.switch;
         grant = step.held l 0 (omega arith, some, inr (inl (refl, refl))) nearest
             (λ is. elim is [ inl s ↦ let e = s.1 in omega arith | inr more ↦ elim more [ inl s ↦ let e = s.1 in omega arith | inr none ↦ none ] ]);
         accept = step.accepted l a (inl (refl, refl));
       } in
-      late_first rounds n t places it some some_rounds last.switch suits rest 0 z (settles_shares z l a) (inr (inl (refl, refl))) (inl (refl, some_z)) starts
-      (then after next (step.accepted 0 z (inr (inl (refl, refl)))))
+      late_first rounds n t places it some some_rounds last.switch suits rest 0 z (settles_shares z l a) (inr (inl (refl, refl)))
+      (inl (refl, can.some_l)) starts
+      (then (t + 1) after (next, step.accepted 0 z (inr (inl (refl, refl)))))
 
   -- input l goes down from output a, and input 0 takes output 1 in each of its slots
   late_sharings : (rest : List Plan) → ((a : ℕ) → 0 < a → Starts (Follows (shares 1 l a)) rest)
-      → ((t : ℕ) (places : Places) → IsLast n places l n → accept_of places 0 0 ≡ 2 % n → IsFirmLate rounds n t places rest)
-      → (k a t : ℕ) (places : Places) → 1 < a → a + k ≡ n → IsLast n places l a → (2 < a → accept_of places 0 0 ≡ 2 % n) → 2 < n
-      → IsFirmLate rounds n t places (sharings 1 l a k rest)
-  late_sharings rest starts then zero a t places more all last at three =
+      → AreFirmLate rounds n (λ places. IsLast n l n places × (accept_of places 0 0 ≡ 2 % n)) rest
+      → (k a : ℕ) → 1 < a → a + k ≡ n → 2 < n
+      → AreFirmLate rounds n (λ places. IsLast n l a places × (2 < a → accept_of places 0 0 ≡ 2 % n)) (sharings 1 l a k rest)
+  late_sharings rest starts then zero a more all three t places at =
       let e : a ≡ n = omega arith in
-      then t places (subst (λ v. IsLast n places l v) e last) (at (omega arith))
-  late_sharings rest starts then (suc k) a t places more all last at three =
-      late_shared 1 a t places (sharings 1 l (a + 1) k rest) (omega arith) ports (omega arith) (omega arith) (λ e. omega arith) last (follows k)
-      (λ after next taken. late_sharings rest starts then k (a + 1) (t + 1) after (omega arith) (omega arith) next (λ yes. taken) three) where
+      then t places (subst (λ v. IsLast n l v places) e at.0, at.1 (omega arith))
+  late_sharings rest starts then (suc k) a more all three t places at =
+      let can : CanShare n 1 l a = record {
+        some_x = omega arith;
+        x_in = omega arith;
+        some_y = omega arith;
+        y_in = omega arith;
+        some_l = omega arith;
+        l_in = omega arith;
+        other = λ e. omega arith;
+      } in
+      late_shared 1 a (sharings 1 l (a + 1) k rest) can (follows k)
+      (λ t after next. late_sharings rest starts then k (a + 1) (omega arith) (omega arith) three t after (next.0, λ yes. next.1)) t places at.0 where
         follows : (k : ℕ) → Starts (Follows (shares 1 l a)) (sharings 1 l (a + 1) k rest)
         follows zero = starts a (omega arith)
         follows (suc k) = shares_shares 1 l a (omega arith) (omega arith) (omega arith)
 
   -- all of the family
-  late_family : (t : ℕ) (places : Places) → 2 < n → IsTurn n places 1 1 → IsFirmLate rounds n t places (family n l)
+  late_family : (t : ℕ) (places : Places) → 2 < n → IsTurn n 1 1 places → IsFirmLate rounds n t places (family n l)
   late_family t places three turn =
       let down = sharings 1 l 2 (n - 2) (final n l 2) in
+      let can : CanShare n 2 l 1 = record {
+        some_x = omega arith;
+        x_in = omega arith;
+        some_y = omega arith;
+        y_in = omega arith;
+        some_l = omega arith;
+        l_in = omega arith;
+        other = λ e. omega arith;
+      } in
       late_climbs rounds n two ports l (shares 2 l 1 ∷ down) (omega arith)
       (λ x some_x e. subst (λ v. Follows (hands x v) (shares 2 l 1)) (sym e) (hands_shares x l 2 1 some_x (omega arith)))
-      (λ t places turn.
-      late_shared 2 1 t places down (omega arith) three (omega arith) ports (λ e. omega arith)
-      (record { switch = turn.switch; grant = turn.grant; accept = turn.accept })
+      (λ t places turn. late_shared 2 1 down can
       (starts_more_sharings (Follows (shares 2 l 1)) 1 l 2 (n - 2) (final n l 2) (omega arith)
       (shares_other 2 1 l 1 2 (omega arith) (omega arith) (omega arith)))
-      (λ after next taken. late_sharings (final n l 2) (λ a some_a. shares_ends 1 l a (omega arith) (omega arith) some_a)
-      (λ t places last at. late_final 2 t places (omega arith) three last.switch last.grant (at ∙ mod-eq_of_lt three))
-      (n - 2) 2 (t + 1) after (omega arith) (omega arith) next (λ none. absurd (omega arith)) three))
-      (n - 2) 1 t places (omega arith) (omega arith) turn
+      (λ t after next. late_sharings (final n l 2) (λ a some_a. shares_ends 1 l a (omega arith) (omega arith) some_a)
+      (λ t places last. late_final 2 t places (omega arith) three last.0.switch last.0.grant (last.1 ∙ mod-eq_of_lt three))
+      (n - 2) 2 (omega arith) (omega arith) three t after (next.0, λ none. absurd (omega arith)))
+      t places (record { switch = turn.switch; grant = turn.grant; accept = turn.accept }))
+      (n - 2) 1 (omega arith) (omega arith) t places turn
 
 -- the window is reached
 abbrev Reached : ℕ → ℕ → Type 0

@@ -118,56 +118,6 @@ pub record AreApartHere (n l a b c u v : ℕ) : Type 0 where
   pub of_output : b ≡ v → 2 ≡ u
   pub of_input : 2 ≡ u → b ≡ v
 
--- they are, where the last is the second
-pub apart_twice : (n l a b c : ℕ) → l < n → 2 < l → 0 < a → a < n → 0 < b → b < n → 0 < c → c < n → (a ≡ b → ⊥) → (a ≡ c → ⊥) → (b ≡ c → ⊥)
-    → AreApartHere n l a b c 2 b
-apart_twice n l a b c last_in high some_a a_in some_b b_in some_c c_in a_b a_c b_c = record {
-  last_in = last_in;
-  high = high;
-  some_a = some_a;
-  a_in = a_in;
-  some_b = some_b;
-  b_in = b_in;
-  some_c = some_c;
-  c_in = c_in;
-  a_b = a_b;
-  a_c = a_c;
-  b_c = b_c;
-  some_u = omega arith;
-  u_in = high;
-  some_v = some_b;
-  v_in = b_in;
-  a_v = a_b;
-  c_v = λ e. b_c (sym e);
-  of_output = λ e. refl;
-  of_input = λ e. refl;
-}
-
--- and where it is of input 1
-pub apart_one : (n l a b c v : ℕ) → l < n → 2 < l → 0 < a → a < n → 0 < b → b < n → 0 < c → c < n → 0 < v → v < n → (a ≡ b → ⊥) → (a ≡ c → ⊥)
-    → (b ≡ c → ⊥) → (a ≡ v → ⊥) → (b ≡ v → ⊥) → (c ≡ v → ⊥) → AreApartHere n l a b c 1 v
-apart_one n l a b c v last_in high some_a a_in some_b b_in some_c c_in some_v v_in a_b a_c b_c a_v b_v c_v = record {
-  last_in = last_in;
-  high = high;
-  some_a = some_a;
-  a_in = a_in;
-  some_b = some_b;
-  b_in = b_in;
-  some_c = some_c;
-  c_in = c_in;
-  a_b = a_b;
-  a_c = a_c;
-  b_c = b_c;
-  some_u = omega arith;
-  u_in = omega arith;
-  some_v = some_v;
-  v_in = v_in;
-  a_v = a_v;
-  c_v = c_v;
-  of_output = λ e. absurd (b_v e);
-  of_input = λ e. omega arith;
-}
-
 -- Input l points at output a, output 0 at input l and output c at input 2, which is not nearer to output c than to output b.
 pub record IsBlocking (n : ℕ) (places : Places) (l a b c : ℕ) : Type 0 where
   pub grant : grant_of places 0 0 ≡ l

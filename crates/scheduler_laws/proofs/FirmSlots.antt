@@ -70,6 +70,10 @@ also p w j = record { asks = p.asks; serves = pair w j ∷ p.serves; twice = p.t
 abbrev pub IsFirmLate : ℕ → ℕ → ℕ → Places → List Plan → Type 0
 IsFirmLate rounds n = IsLateBy n (firm_decided rounds n)
 
+-- so it is from any slot on, and from all pointers of which P holds
+abbrev pub AreFirmLate : ℕ → ℕ → (Places → Type 0) → List Plan → Type 0
+AreFirmLate rounds n P ps = (t : ℕ) (places : Places) → P places → IsFirmLate rounds n t places ps
+
 module _ (rounds n t : ℕ) (places : Places) (p : Plan) (some : 0 < n) (some_rounds : 0 < rounds) (switch : IsSwitch n places) (suits : Suits n places p) where
   -- the slot
   now : IsFirmSlot n rounds t (rows_of n p) places (firm_decided rounds n t places p)

@@ -26,7 +26,7 @@ use Rattle.scheduler_laws.proofs.Shapes.{nothing, takes, ends, suits_takes, suit
 use Rattle.scheduler_laws.proofs.Settled.{settles_takes, settles_ends}
 use Rattle.scheduler_laws.proofs.Followings.{takes_ends, nothing_ends, ends_first, ends_ends}
 use Rattle.scheduler_laws.proofs.OneRoundFamily.{downs, follows_downs}
-use Rattle.scheduler_laws.proofs.FirmSlots.{firm_decided, IsSwitch-after_firm, IsFirmLate, firm_step_of, late_first, late_last, firm_comes}
+use Rattle.scheduler_laws.proofs.FirmSlots.{firm_decided, IsSwitch-after_firm, IsFirmLate, AreFirmLate, firm_step_of, late_first, late_last, firm_comes}
 
 -- input x takes output 0, which input w begins to ask
 abbrev pub hands : ℕ → ℕ → Plan
@@ -61,7 +61,7 @@ suits_hands n places x w x_in at = record {
 }
 
 -- Output 0 points at input x, which points at output a, and all other inputs point at port 1. A port n is port 0.
-pub record IsTurn (n : ℕ) (places : Places) (x a : ℕ) : Type 0 where
+pub record IsTurn (n x a : ℕ) (places : Places) : Type 0 where
   pub switch : IsSwitch n places
   pub grant : grant_of places 0 0 ≡ x
   pub accept : accept_of places x 0 ≡ a % n
@@ -72,28 +72,31 @@ module _ (rounds n : ℕ) (some_rounds : 0 < rounds) (ports : 1 < n) where
   some : 0 < n
   some = omega arith
 
-  -- input x takes output 0, and it is the turn of input w, which output 0 points at then
-  pub late_hands : (x w a t : ℕ) (places : Places) (rest : List Plan) → 0 < x → x < n → w < n → (w ≡ x → ⊥) → (x + 1) % n ≡ w → IsTurn n places x a
-      → Starts (Follows (hands x w)) rest → ((after : Places) → IsTurn n after w 1 → IsFirmLate rounds n (t + 1) after rest)
-      → IsFirmLate rounds n t places (hands x w ∷ rest)
-  late_hands x w a t places rest some_x x_in w_in apart next_is turn starts then =
+  -- input x takes output 0, and it is the turn of the input after it, which output 0 points at then
+  pub late_hands : (x w a : ℕ) (rest : List Plan) → 0 < x → x < n → (x + 1) % n ≡ w → Starts (Follows (hands x w)) rest
+      → AreFirmLate rounds n (IsTurn n w 1) rest → AreFirmLate rounds n (IsTurn n x a) (hands x w ∷ rest)
+  late_hands x w a rest some_x x_in next_is starts then t places turn =
+      let next_of : (w < n) × (w ≡ x → ⊥) = elim (cases_lt (x + 1) n) [
+        | inl short ↦ let e = mod-eq_of_lt short in (omega arith, λ same. omega arith)
+        | inr round ↦ let e = mod_once n (x + 1) (omega arith) (omega arith) in (omega arith, λ same. omega arith)
+      ] in
       let it = hands x w in
       let suits = suits_hands n places x w x_in turn.grant in
       let step = firm_step_of rounds n t places it some some_rounds turn.switch suits in
       let after = (firm_decided rounds n t places it).places in
       let stays : (i : ℕ) → i < n → (i ≡ x → ⊥) → accept_of after i 0 ≡ 1 = λ i i_in other. step.accept_stays i
       (λ j is. elim is [ inl s ↦ other s.0 | inr none ↦ none ]) ∙ turn.others i i_in other in
-      let next : IsTurn n after w 1 = record {
+      let next : IsTurn n w 1 after = record {
         switch = IsSwitch-after_firm rounds n t places it turn.switch;
         grant = step.granted x 0 (inl (refl, refl)) ∙ next_is;
-        accept = stays w w_in apart ∙ sym (mod-eq_of_lt ports);
+        accept = stays w next_of.0 next_of.1 ∙ sym (mod-eq_of_lt ports);
         others = λ i i_in other. elim (cases_eq i x) [
           | inl e ↦ subst (λ v. accept_of after v 0 ≡ 1) (sym e) (step.accepted x 0 (inl (refl, refl)) ∙ mod-eq_of_lt ports)
           | inr aside ↦ stays i i_in aside
         ];
       } in
       late_first rounds n t places it some some_rounds turn.switch suits rest x 0 (settles_hands x w) (inl (refl, refl)) (inr (some_x, refl)) starts
-      (then after next)
+      (then (t + 1) after next)
 
   -- input 0 goes down from output a, where output 0 points at it, and then takes output 0
   pub late_lowers : (k a t : ℕ) (places : Places) → 0 < a → a + k ≡ n → IsSwitch n places → grant_of places 0 0 ≡ 0 → accept_of places 0 0 ≡ a % n
@@ -146,7 +149,7 @@ with_length rounds n rest P long all = (all.0, all.1, all.2, subst P (sym all.3)
 module _ (rounds n : ℕ) (some_rounds : 0 < rounds) (ports : 1 < n) (rest : List Plan) (starts : Starts (Follows (hands 0 1)) rest) where
   -- the opening leads to where the window begins
   opens : (k x t : ℕ) (places : Places) → x + k ≡ n → IsOpened n places x
-      → (after : Places) × IsTurn n after 1 1 × LeadsBy n (firm_decided rounds n) t places (openings x k rest) (suc k) after rest
+      → (after : Places) × IsTurn n 1 1 after × LeadsBy n (firm_decided rounds n) t places (openings x k rest) (suc k) after rest
   opens zero x t places sum opened =
       let same : x ≡ n = omega arith in
       let some : 0 < n = omega arith in
@@ -203,12 +206,12 @@ module _ (rounds n : ℕ) (some_rounds : 0 < rounds) (ports : 1 < n) (rest : Lis
   -- What is late from where the openings lead comes in a schedule from all pointers at port 0. What its length has, that of
   -- the window has.
   pub firm_late_comes : n ≤ MAX_PORTS → (P : ℕ → Type 0) → P (length rest)
-      → ((t : ℕ) (places : Places) → IsTurn n places 1 1 → IsFirmLate rounds n t places rest)
+      → AreFirmLate rounds n (IsTurn n 1 1) rest
       → (slots : List DecidedSlot) × AreFedAtLineRate n slots × ComesLastByFirmAtLineRate n rounds (n + 1) slots × P (length (drop (n + 1) slots))
   firm_late_comes size P long late =
       let opened = IsOpened-at_first size in
       let found = opens n 0 0 (places_at_first n) (omega arith) opened in
-      let turn : IsTurn n found.0 1 1 = found.1 in
+      let turn : IsTurn n 1 1 found.0 = found.1 in
       let d : n ≡ suc (n - 1) = omega arith in
       let one : Starts IsOneEach (openings 0 n rest) = subst (λ k. Starts IsOneEach (openings 0 k rest)) (sym d) (starts_openings 0 (n - 1) rest) in
       let first : Starts (Follows nothing) (openings 0 n rest) = subst (λ k. Starts (Follows nothing) (openings 0 k rest)) (sym d) nothing_ends in

@@ -22,9 +22,9 @@ use Rattle.scheduler_laws.proofs.NextPlans.{Follows, Starts}
 use Rattle.scheduler_laws.proofs.PlannedRuns.{run, length-run, All-run, IsLateBy-before, opens_run, LeadsBy, leads_none}
 use Rattle.scheduler_laws.proofs.PlannedRuns.{leads_before, led, kept_all}
 use Rattle.scheduler_laws.proofs.ManySlots.{decided_in, slot_decided_in, IsSwitch-after_in, many_step_of, left_by_input}
-use Rattle.scheduler_laws.proofs.Shapes.{nothing, takes, ends, again, passes, wins, both, suits_ends, suits_again, suits_both, suits_wins}
+use Rattle.scheduler_laws.proofs.Shapes.{nothing, takes, ends, again, passes, wins, both, suits_takes, suits_ends, suits_again, suits_both, suits_wins}
 use Rattle.scheduler_laws.proofs.MoreShapes.{closes, readies, readies_too, crosses_by}
-use Rattle.scheduler_laws.proofs.Settled.{settles_ends, settles_again, settles_wins, settles_both}
+use Rattle.scheduler_laws.proofs.Settled.{settles_takes, settles_ends, settles_again, settles_wins, settles_both}
 use Rattle.scheduler_laws.proofs.Followings.{again_takes, again_wins, takes_wins, wins_both, both_both}
 use Rattle.scheduler_laws.proofs.MoreFollowings.{both_crosses_by, wins_crosses_by}
 use Rattle.scheduler_laws.proofs.FedRuns.{fed_at_line_rate}
@@ -32,7 +32,7 @@ use Rattle.scheduler_laws.proofs.Openings.{openings, starts_openings, follows_op
 use Rattle.scheduler_laws.proofs.OneRoundFamily.{downs, length-downs, boths, length-boths, starts_boths}
 use Rattle.scheduler_laws.proofs.MoreRoundsFamily.{sharings, goes, before, climbs, level, backs, levels, body, IsBase, IsLateIn}
 use Rattle.scheduler_laws.proofs.ThreePorts.{three, late_three}
-use Rattle.scheduler_laws.proofs.MoreLevels.{late_takes, late_crosses}
+use Rattle.scheduler_laws.proofs.MoreLevels.{late_crosses}
 
 -- ---- how many slots these are
 pub length-sharings : (l x k y : ℕ) (rest : List Plan) → length (sharings l x y k rest) ≡ k + length rest
@@ -120,13 +120,13 @@ four_on l = takes 0 1 ∷ wins 2 l ∷ boths l 3 (l - 3) (crosses_by l l ∷ bod
 
 -- all inputs and output 0 point at port 1, and the other outputs at port 0
 record IsBeginning (n : ℕ) (places : Places) : Type 0 where
-  base : IsBase n places 1 1 n 1
+  base : IsBase n 1 1 n 1 places
   at : accept_of places 0 0 ≡ 1
   others : (m : ℕ) → 0 < m → grant_of places m 0 ≡ 0
 
 module _ (rounds n l : ℕ) (two : 1 < rounds) (sum : l + 1 ≡ n) (high : 2 < l) where
   -- input 0 goes on down, while the last input takes output 2 and has one cell more for it
-  late_boths : (k y t : ℕ) (places : Places) → 2 < y → y + k ≡ l → IsBase n places 1 1 l 1 → accept_of places 0 0 ≡ y
+  late_boths : (k y t : ℕ) (places : Places) → 2 < y → y + k ≡ l → IsBase n 1 1 l 1 places → accept_of places 0 0 ≡ y
       → distance n (accept_of places l 0) 1 ≤ distance n (accept_of places l 0) 2
       → IsLateIn rounds n t places (boths l y k (crosses_by l l ∷ body l))
   late_boths zero y t places some_y all base at near = late_crosses rounds n l two sum high t places base (at ∙ omega arith) near
@@ -140,7 +140,7 @@ module _ (rounds n l : ℕ) (two : 1 < rounds) (sum : l + 1 ≡ n) (high : 2 < l
       (omega arith) in
       let other : distance n (accept_of after l 0) 2 + 3 ≡ 2 + n = ap (λ f. distance n f 2 + 3) three ∙ distance-below n 3 2 (omega arith) (omega arith)
       (omega arith) in
-      let next : IsBase n after 1 1 l 1 = record {
+      let next : IsBase n 1 1 l 1 after = record {
         switch = IsSwitch-after_in rounds n t places it base.switch;
         grant = step.grant_stays 0
             (λ i is. elim is [ inl s ↦ let e = s.1 in omega arith | inr more ↦ elim more [ inl s ↦ let e = s.1 in omega arith | inr none ↦ none ] ])
@@ -164,17 +164,29 @@ module _ (rounds n l : ℕ) (two : 1 < rounds) (sum : l + 1 ≡ n) (high : 2 < l
       let it = wins 2 l in
       let last = crosses_by l l ∷ body l in
       let rest = boths l 3 (l - 3) last in
-      late_takes rounds n l two sum high 1 1 n 1 1 t places (it ∷ rest) (omega arith) (omega arith) (omega arith) begins.base begins.at
-      (takes_wins 1 2 l (omega arith) (omega arith))
-      (λ before base at granted stays.
-      let zero_at : grant_of before 2 0 ≡ 0 = stays 2 (λ e. omega arith) ∙ begins.others 2 (omega arith) in
-      let suits = suits_wins n before 2 l (omega arith) (omega arith) (omega arith) (at ∙ mod-eq_of_lt (omega arith)) zero_at in
+      let first = takes 0 1 in
+      let start = begins.base in
+      let down = suits_takes n places 0 1 (omega arith) (omega arith) (omega arith) (inl refl) begins.at in
+      let taken = many_step_of rounds n t places first (omega arith) start.switch down (omega arith) in
+      let before = (decided_in rounds n t places first).places in
+      let base : IsBase n 1 1 n 1 before = record {
+        switch = IsSwitch-after_in rounds n t places first start.switch;
+        grant = taken.grant_stays 0 (λ i is. elim is [ inl s ↦ let e = s.1 in omega arith | inr none ↦ none ]) ∙ start.grant;
+        fresh = λ i i_low i_high. taken.accept_stays i (λ j is. elim is [ inl s ↦ let e = s.0 in omega arith | inr none ↦ none ])
+            ∙ start.fresh i i_low i_high;
+      } in
+      let zero_at : grant_of before 2 0 ≡ 0 = taken.grant_stays 2 (λ i is. elim is [ inl s ↦ let e = s.1 in omega arith | inr none ↦ none ])
+      ∙ begins.others 2 (omega arith) in
+      let at : accept_of before 0 0 ≡ 2 = taken.accepted 0 1 (inl (refl, refl)) ∙ mod-eq_of_lt (omega arith) in
+      let suits = suits_wins n before 2 l (omega arith) (omega arith) (omega arith) at zero_at in
       let step = many_step_of rounds n (t + 1) before it (omega arith) base.switch suits (omega arith) in
       let after = (decided_in rounds n (t + 1) before it).places in
       let fresh : (i : ℕ) → 1 ≤ i → i < n → accept_of after i 0 ≡ 1 = λ i i_low i_high. step.accept_stays i
       (λ j is. elim is [ inl s ↦ let e = s.0 in omega arith | inr none ↦ none ]) ∙ base.fresh i i_low i_high in
       let near : distance n (accept_of after l 0) 1 ≡ 0 = ap (λ f. distance n f 1) (fresh l (omega arith) (omega arith)) ∙ distance-own n 1 (omega arith) in
-      IsLateBy-before n (decided_in rounds n) (t + 1) before it rest (step.serving (settles_wins 2 l))
+      IsLateBy-before n (decided_in rounds n) t places first (it ∷ rest) (taken.serving (settles_takes 1)) (takes_wins 1 2 l (omega arith) (omega arith))
+      (left_by_input rounds n t places first (omega arith) start.switch down (omega arith) 1 (omega arith) (inl (refl, refl)))
+      (IsLateBy-before n (decided_in rounds n) (t + 1) before it rest (step.serving (settles_wins 2 l))
       (starts_boths (Follows it) l (l - 3) 3 last (wins_both 3 l (omega arith)) (wins_crosses_by l l (omega arith)))
       (left_by_input rounds n (t + 1) before it (omega arith) base.switch suits (omega arith) 2 (omega arith) (inl (refl, refl)))
       (late_boths (l - 3) 3 (t + 1 + 1) after (omega arith) (omega arith) (record {

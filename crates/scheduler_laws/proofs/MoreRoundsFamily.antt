@@ -25,8 +25,8 @@ use Rattle.scheduler_laws.proofs.NextPlans.{Follows, Starts}
 use Rattle.scheduler_laws.proofs.PlannedRuns.{IsLateBy, IsLateBy-before}
 use Rattle.scheduler_laws.proofs.ManySlots.{decided_in, IsSwitch-after_in, many_step_of, serving_by, left_by_input, served_second}
 use Rattle.scheduler_laws.proofs.Shapes.{takes, ends, passes, suits_passes, at_first}
-use Rattle.scheduler_laws.proofs.MoreShapes.{shares, closes, joins, joins_first, resets, readies, readies_too, suits_shares, suits_closes, suits_joins}
-use Rattle.scheduler_laws.proofs.MoreShapes.{second_joins, suits_resets}
+use Rattle.scheduler_laws.proofs.MoreShapes.{shares, closes, joins, joins_first, resets, readies, readies_too, CanShare, suits_shares, Descent, suits_closes}
+use Rattle.scheduler_laws.proofs.MoreShapes.{suits_joins, second_joins, suits_resets}
 use Rattle.scheduler_laws.proofs.Settled.{settles_passes, settles_shares, settles_closes, settles_joins, settles_resets}
 use Rattle.scheduler_laws.proofs.MoreFollowings.{shares_shares, shares_closes, joins_shares, joins_closes, closes_joins, closes_passes}
 use Rattle.scheduler_laws.proofs.OneRoundFamily.{downs}
@@ -89,11 +89,11 @@ pub before_other : (p k x : ℕ) → 0 < p → x ≡ p + k → before p k ≡ x 
 before_other p k x some e same = elim (before_is p k) [ inl none ↦ omega arith | inr next ↦ omega arith ]
 
 -- at the end of an input's slots comes the next one, or the slot of input p
-starts_climbs : (l p f k x : ℕ) (rest : List Plan) → 0 < l → 0 < f → 0 < p → x ≡ p + k
-    → Starts (Follows (closes l x f (before p k))) (climbs l p f k (passes p ∷ rest))
-starts_climbs l p f zero x rest more some_f some e = let same : x ≡ p = omega arith in
-    subst (λ v. Follows (closes l x f 0) (passes v)) same (closes_passes l x f more some_f)
-starts_climbs l p f (suc k) x rest more some_f some e = closes_joins l x f (p + k) more some_f (omega arith) (omega arith)
+starts_climbs : (n l : ℕ) (d : Descent n l) (k : ℕ) (rest : List Plan) → d.x ≡ d.p + k
+    → Starts (Follows (closes l d.x d.f (before d.p k))) (climbs l d.p d.f k (passes d.p ∷ rest))
+starts_climbs n l d zero rest e = let same : d.x ≡ d.p = omega arith in
+    subst (λ v. Follows (closes l d.x d.f 0) (passes v)) same (closes_passes l d.x d.f (omega arith) d.some_f)
+starts_climbs n l d (suc k) rest e = closes_joins l d.x d.f (d.p + k) (omega arith) d.some_f (omega arith) (omega arith)
 
 -- a level begins with the last input
 pub starts_levels : (P : Plan → Type 0) (l p k : ℕ) → P (shares l l 2) → Starts P (levels l p k)
@@ -107,10 +107,25 @@ starts_lowers P a (suc k) rest here starts = here
 
 -- ---- the pointers along the window
 -- Output 0 points at p, and the inputs from `low` to below `high` at output b. A port n is port 0.
-pub record IsBase (n : ℕ) (places : Places) (p low high b : ℕ) : Type 0 where
+pub record IsBase (n p low high b : ℕ) (places : Places) : Type 0 where
   pub switch : IsSwitch n places
   pub grant : grant_of places 0 0 ≡ p % n
   pub fresh : (i : ℕ) → low ≤ i → i < high → accept_of places i 0 ≡ b
+
+-- Input x points at output y, and output f at the input after it. The inputs from p to below x point at output f.
+pub record IsGoing (n l : ℕ) (d : Descent n l) (y : ℕ) (places : Places) : Type 0 where
+  pub base : IsBase n d.p d.p d.x d.f places
+  pub beyond : d.f ≤ y
+  pub at : accept_of places d.x 0 ≡ y
+  pub held : d.f < y → grant_of places d.f 0 ≡ (d.x + 1) % n
+
+-- Output 0 points at p, the inputs from w on at output 2, input 0 at output y, and output 2, if y is beyond it, at input 1.
+-- An output n is output 0.
+pub record IsBack (n p w y : ℕ) (places : Places) : Type 0 where
+  pub base : IsBase n p w n 2 places
+  pub beyond : 1 < y
+  pub at : accept_of places 0 0 ≡ y % n
+  pub held : 2 < y → grant_of places 2 0 ≡ 1
 
 -- from port p on, input x comes before input 0
 ahead : (n from p x : ℕ) → from ≡ p % n → 0 < p → p ≤ x → x < n → distance n from x < distance n from 0
@@ -148,6 +163,10 @@ closing n from x u x_in e how = elim how [
 abbrev pub IsLateIn : ℕ → ℕ → ℕ → Places → List Plan → Type 0
 IsLateIn rounds n = IsLateBy n (decided_in rounds n)
 
+-- so it is from any slot on, and from all pointers of which P holds
+abbrev pub AreLateIn : ℕ → ℕ → (Places → Type 0) → List Plan → Type 0
+AreLateIn rounds n P ps = (t : ℕ) (places : Places) → P places → IsLateIn rounds n t places ps
+
 module _ (rounds n l : ℕ) (two : 1 < rounds) (sum : l + 1 ≡ n) (high : 1 < l) where
   -- there are ports
   some : 0 < n
@@ -158,44 +177,24 @@ module _ (rounds n l : ℕ) (two : 1 < rounds) (sum : l + 1 ≡ n) (high : 1 < l
   some_rounds = omega arith
 
   -- input x takes output y, and input 0 the last one
-  pub late_shares : (p low above b x y t : ℕ) (places : Places) (rest : List Plan) → 0 < p → p ≤ x → x < n → 0 < low → (x < low) ⊎ (above ≤ x) → 0 < y
-      → y < l → IsBase n places p low above b → accept_of places x 0 ≡ y → Starts (Follows (shares l x y)) rest
-      → ((after : Places) → IsBase n after p low above b → accept_of after x 0 ≡ y + 1 → grant_of after y 0 ≡ (x + 1) % n
-      → ((j : ℕ) → (j ≡ y → ⊥) → (j ≡ l → ⊥) → grant_of after j 0 ≡ grant_of places j 0) → IsLateIn rounds n (t + 1) after rest)
-      → IsLateIn rounds n t places (shares l x y ∷ rest)
-  late_shares p low above b x y t places rest some_p x_above x_in some_low outside some_y y_in base at starts then =
-      let it = shares l x y in
-      let suits = suits_shares n places l x y (omega arith) x_in some_y (omega arith) (omega arith) (omega arith) (λ e. omega arith)
-      (ahead n (grant_of places 0 0) p x base.grant some_p x_above x_in) at in
-      let step = many_step_of rounds n t places it some base.switch suits some_rounds in
-      let after = (decided_in rounds n t places it).places in
-      let next : IsBase n after p low above b = record {
-        switch = IsSwitch-after_in rounds n t places it base.switch;
-        grant = step.grant_stays 0
-            (λ i is. elim is [ inl s ↦ let e = s.1 in omega arith | inr more ↦ elim more [ inl s ↦ let e = s.1 in omega arith | inr none ↦ none ] ])
-            ∙ base.grant;
-        fresh = λ i i_low i_high. step.accept_stays i (λ j is. elim is [
-          | inl s ↦ let e = s.0 in elim outside [ inl a ↦ omega arith | inr a ↦ omega arith ]
-          | inr more ↦ elim more [ inl s ↦ let e = s.0 in omega arith | inr none ↦ none ]
-        ]) ∙ base.fresh i i_low i_high;
+  pub late_shares : (d : Descent n l) (y : ℕ) (rest : List Plan) → y < l → Starts (Follows (shares l d.x y)) rest
+      → AreLateIn rounds n (IsGoing n l d (y + 1)) rest → AreLateIn rounds n (IsGoing n l d y) (shares l d.x y ∷ rest)
+  late_shares d y rest y_in starts then t places going =
+      let it = shares l d.x y in
+      let base = going.base in
+      let can : CanShare n l d.x y = record {
+        some_x = omega arith;
+        x_in = d.x_in;
+        some_y = omega arith;
+        y_in = omega arith;
+        some_l = omega arith;
+        l_in = omega arith;
+        other = λ e. omega arith;
       } in
-      IsLateBy-before n (decided_in rounds n) t places it rest (step.serving (settles_shares l x y)) starts
-      (left_by_input rounds n t places it some base.switch suits some_rounds l (omega arith) (inr (inl (refl, refl))))
-      (then after next (step.accepted x y (inl (refl, refl)) ∙ mod-eq_of_lt (omega arith)) (step.granted x y (inl (refl, refl)))
-      (λ j not_y not_l. step.grant_stays j (λ i is. elim is [ inl s ↦ not_y s.1 | inr more ↦ elim more [ inl s ↦ not_l s.1 | inr none ↦ none ] ])))
-
-  -- input x takes the last output, and input 0 output f
-  pub late_closes : (p b x f u t : ℕ) (places : Places) (rest : List Plan) → 0 < p → p ≤ x → x < n → 0 < f → f < l → (u ≡ 0) ⊎ (u + 1 ≡ x)
-      → IsBase n places p p x b → accept_of places x 0 ≡ l → grant_of places f 0 ≡ (x + 1) % n → Starts (Follows (closes l x f u)) rest
-      → ((after : Places) → IsBase n after p p x b → grant_of after l 0 ≡ (x + 1) % n → IsLateIn rounds n (t + 1) after rest)
-      → IsLateIn rounds n t places (closes l x f u ∷ rest)
-  late_closes p b x f u t places rest some_p x_above x_in some_f f_in how base at held starts then =
-      let it = closes l x f u in
-      let suits = suits_closes n places l x f u (omega arith) x_in some_f f_in (omega arith)
-      (ahead n (grant_of places 0 0) p x base.grant some_p x_above x_in) at (closing n (grant_of places f 0) x u x_in held how) in
+      let suits = suits_shares n places l d.x y can (ahead n (grant_of places 0 0) d.p d.x base.grant d.some_p d.above d.x_in) going.at in
       let step = many_step_of rounds n t places it some base.switch suits some_rounds in
       let after = (decided_in rounds n t places it).places in
-      let next : IsBase n after p p x b = record {
+      let next : IsBase n d.p d.p d.x d.f after = record {
         switch = IsSwitch-after_in rounds n t places it base.switch;
         grant = step.grant_stays 0
             (λ i is. elim is [ inl s ↦ let e = s.1 in omega arith | inr more ↦ elim more [ inl s ↦ let e = s.1 in omega arith | inr none ↦ none ] ])
@@ -204,42 +203,87 @@ module _ (rounds n l : ℕ) (two : 1 < rounds) (sum : l + 1 ≡ n) (high : 1 < l
             (λ j is. elim is [ inl s ↦ let e = s.0 in omega arith | inr more ↦ elim more [ inl s ↦ let e = s.0 in omega arith | inr none ↦ none ] ])
             ∙ base.fresh i i_low i_high;
       } in
-      IsLateBy-before n (decided_in rounds n) t places it rest (step.serving (settles_closes l x f u)) starts
-      (left_by_input rounds n t places it some base.switch suits some_rounds f some_f (inr (inl (refl, refl))))
-      (then after next (step.granted x l (inl (refl, refl))))
+      let held : d.f < y + 1 → grant_of after d.f 0 ≡ (d.x + 1) % n = λ yes. elim (cases_lt d.f y) [
+        | inl later ↦ step.grant_stays d.f
+            (λ i is. elim is [ inl s ↦ let e = s.1 in omega arith | inr more ↦ elim more [ inl s ↦ let e = s.1 in omega arith | inr none ↦ none ] ])
+            ∙ going.held later
+        | inr now ↦ let same : y ≡ d.f = omega arith in subst (λ v. grant_of after v 0 ≡ (d.x + 1) % n) same (step.granted d.x y (inl (refl, refl)))
+      ] in
+      IsLateBy-before n (decided_in rounds n) t places it rest (step.serving (settles_shares l d.x y)) starts
+      (left_by_input rounds n t places it some base.switch suits some_rounds l (omega arith) (inr (inl (refl, refl))))
+      (then (t + 1) after (record {
+        base = next;
+        beyond = omega arith;
+        at = step.accepted d.x y (inl (refl, refl)) ∙ mod-eq_of_lt (omega arith);
+        held = held;
+      }))
 
-  -- input x goes down
-  late_goes : (p x f u : ℕ) (rest : List Plan) → 0 < p → p ≤ x → x < n → 0 < f → f < l → (u ≡ 0) ⊎ (u + 1 ≡ x) → (u ≡ x → ⊥)
-      → Starts (Follows (closes l x f u)) rest
-      → ((t : ℕ) (places : Places) → IsBase n places p p x f → IsLateIn rounds n t places rest)
-      → (k y t : ℕ) (places : Places) → f < y → y + k ≡ l → IsBase n places p p x f → accept_of places x 0 ≡ y → grant_of places f 0 ≡ (x + 1) % n
-      → IsLateIn rounds n t places (sharings l x y k (closes l x f u ∷ rest))
-  late_goes p x f u rest some_p x_above x_in some_f f_in how other starts then zero y t places above all base at held =
-      late_closes p f x f u t places rest some_p x_above x_in some_f f_in how base (at ∙ omega arith) held starts (λ after next last. then (t + 1) after next)
-  late_goes p x f u rest some_p x_above x_in some_f f_in how other starts then (suc k) y t places above all base at held =
-      late_shares p p x f x y t places (sharings l x (y + 1) k (closes l x f u ∷ rest)) some_p x_above x_in some_p (inr (omega arith)) (omega arith)
-      (omega arith) base at
-      (starts_sharings (Follows (shares l x y)) l x (y + 1) k (closes l x f u ∷ rest) (shares_shares l x y (omega arith) (omega arith) (omega arith))
-      (shares_closes l x y f u (omega arith) (omega arith) (omega arith) other))
-      (λ after next at granted stays. late_goes p x f u rest some_p x_above x_in some_f f_in how other starts then k (y + 1) (t + 1) after (omega arith)
-      (omega arith) next at
-      (stays f (λ e. omega arith) (λ e. omega arith) ∙ held))
+  -- input x takes the last output, and input 0 output f
+  pub late_closes : (d : Descent n l) (u : ℕ) (rest : List Plan) → (u ≡ 0) ⊎ (u + 1 ≡ d.x) → Starts (Follows (closes l d.x d.f u)) rest
+      → AreLateIn rounds n (λ after. IsBase n d.p d.p d.x d.f after × (grant_of after l 0 ≡ (d.x + 1) % n)) rest
+      → AreLateIn rounds n (IsGoing n l d l) (closes l d.x d.f u ∷ rest)
+  late_closes d u rest how starts then t places going =
+      let it = closes l d.x d.f u in
+      let base = going.base in
+      let suits = suits_closes n places l d u (omega arith) (ahead n (grant_of places 0 0) d.p d.x base.grant d.some_p d.above d.x_in) going.at
+      (closing n (grant_of places d.f 0) d.x u d.x_in (going.held d.f_in) how) in
+      let step = many_step_of rounds n t places it some base.switch suits some_rounds in
+      let after = (decided_in rounds n t places it).places in
+      let next : IsBase n d.p d.p d.x d.f after = record {
+        switch = IsSwitch-after_in rounds n t places it base.switch;
+        grant = step.grant_stays 0
+            (λ i is. elim is [ inl s ↦ let e = s.1 in omega arith | inr more ↦ elim more [ inl s ↦ let e = s.1 in omega arith | inr none ↦ none ] ])
+            ∙ base.grant;
+        fresh = λ i i_low i_high. step.accept_stays i
+            (λ j is. elim is [ inl s ↦ let e = s.0 in omega arith | inr more ↦ elim more [ inl s ↦ let e = s.0 in omega arith | inr none ↦ none ] ])
+            ∙ base.fresh i i_low i_high;
+      } in
+      IsLateBy-before n (decided_in rounds n) t places it rest (step.serving (settles_closes l d.x d.f u)) starts
+      (left_by_input rounds n t places it some base.switch suits some_rounds d.f d.some_f (inr (inl (refl, refl))))
+      (then (t + 1) after (next, step.granted d.x l (inl (refl, refl))))
+
+  -- input x takes the outputs from y on
+  late_sharings : (d : Descent n l) (rest : List Plan) → ((y : ℕ) → 0 < y → Starts (Follows (shares l d.x y)) rest)
+      → AreLateIn rounds n (IsGoing n l d l) rest → (k y : ℕ) → y + k ≡ l → AreLateIn rounds n (IsGoing n l d y) (sharings l d.x y k rest)
+  late_sharings d rest starts then zero y all t places going =
+      let e : y ≡ l = omega arith in then t places (subst (λ v. IsGoing n l d v places) e going)
+  late_sharings d rest starts then (suc k) y all t places going =
+      let some_y : 0 < y = omega arith in
+      late_shares d y (sharings l d.x (y + 1) k rest) (omega arith)
+      (starts_sharings (Follows (shares l d.x y)) l d.x (y + 1) k rest (shares_shares l d.x y (omega arith) (omega arith) some_y) (starts y some_y))
+      (late_sharings d rest starts then k (y + 1) (omega arith)) t places going
+
+  -- input x goes down, where k inputs are left from p on
+  late_goes : (d : Descent n l) (k : ℕ) (rest : List Plan) → d.x ≡ d.p + k → Starts (Follows (closes l d.x d.f (before d.p k))) rest
+      → AreLateIn rounds n (IsBase n d.p d.p d.x d.f) rest
+      → AreLateIn rounds n (IsGoing n l d (d.f + 1)) (goes l d.x d.f (before d.p k) rest)
+  late_goes d k rest e starts then =
+      let u = before d.p k in
+      let how : (u ≡ 0) ⊎ (u + 1 ≡ d.x) = elim (before_is d.p k) [ inl none ↦ inl none | inr next ↦ inr (omega arith) ] in
+      late_sharings d (closes l d.x d.f u ∷ rest)
+      (λ y some_y. shares_closes l d.x y d.f u (omega arith) (omega arith) some_y (before_other d.p k d.x d.some_p e))
+      (late_closes d u rest how starts (λ t places next. then t places next.0)) (l - (d.f + 1)) (d.f + 1) (omega arith)
 
   -- input x begins to ask, and the input after it is served in the second round
-  pub late_joins : (p f x t : ℕ) (places : Places) (rest : List Plan) → 0 < p → p ≤ x → x + 1 < n → 0 < f → f < l → IsBase n places p p (x + 1) f
-      → Starts (Follows (joins x f)) rest
-      → ((after : Places) → IsBase n after p p x f → accept_of after x 0 ≡ f + 1 → grant_of after f 0 ≡ (x + 1) % n
-      → ((j : ℕ) → (j ≡ f → ⊥) → grant_of after j 0 ≡ grant_of places j 0) → IsLateIn rounds n (t + 1) after rest)
-      → IsLateIn rounds n t places (joins x f ∷ rest)
-  late_joins p f x t places rest some_p x_above next_in some_f f_in base starts then =
+  pub late_joins : (d : Descent n l) (t : ℕ) (places : Places) (rest : List Plan) → d.x + 1 < n → IsBase n d.p d.p (d.x + 1) d.f places
+      → Starts (Follows (joins d.x d.f)) rest
+      → ((after : Places) → IsGoing n l d (d.f + 1) after → ((j : ℕ) → (j ≡ d.f → ⊥) → grant_of after j 0 ≡ grant_of places j 0)
+      → IsLateIn rounds n (t + 1) after rest)
+      → IsLateIn rounds n t places (joins d.x d.f ∷ rest)
+  late_joins d t places rest next_in base starts then =
+      let x = d.x in
+      let f = d.f in
       let it = joins_first x f in
       let from = grant_of places 0 0 in
-      let suits = suits_joins n places x f (omega arith) some_f (omega arith) (ahead n from p x base.grant some_p x_above (omega arith))
-      (ahead_next n from p x base.grant x_above next_in) (base.fresh x x_above (omega arith)) in
-      let after_it = ahead n from p (x + 1) base.grant some_p (omega arith) next_in in
+      let suits = suits_joins n places x f d.x_in d.some_f (omega arith) (record {
+        before = ahead n from d.p x base.grant d.some_p d.above d.x_in;
+        after = ahead_next n from d.p x base.grant d.above next_in;
+        at = base.fresh x d.above (omega arith);
+      }) in
+      let after_it = ahead n from d.p (x + 1) base.grant d.some_p (omega arith) next_in in
       let step = many_step_of rounds n t places it some base.switch suits some_rounds in
       let second = served_second rounds n t places it some base.switch suits some_rounds two (x + 1) 0
-      (second_joins n places x f next_in some_f (omega arith)) in
+      (second_joins n places x f next_in d.some_f (omega arith)) in
       let after = (decided_in rounds n t places it).places in
       let matched = (decided_in rounds n t places it).matched in
       let serves : (i j : ℕ) → In i j (joins x f).serves → Serves matched i j 0 Uni = λ i j is. elim is [
@@ -250,7 +294,7 @@ module _ (rounds n l : ℕ) (two : 1 < rounds) (sum : l + 1 ≡ n) (high : 1 < l
           | inr none ↦ absurd none
         ]
       ] in
-      let next : IsBase n after p p x f = record {
+      let next : IsBase n d.p d.p d.x d.f after = record {
         switch = IsSwitch-after_in rounds n t places it base.switch;
         grant = step.grant_stays 0 (λ i is. elim is [ inl s ↦ let e = s.1 in omega arith | inr none ↦ none ]) ∙ base.grant;
         fresh = λ i i_low i_high. step.accept_stays i (λ j is. elim is [ inl s ↦ let e = s.0 in omega arith | inr none ↦ none ])
@@ -259,73 +303,74 @@ module _ (rounds n l : ℕ) (two : 1 < rounds) (sum : l + 1 ≡ n) (high : 1 < l
       IsLateBy-before n (decided_in rounds n) t places (joins x f) rest
       (serving_by rounds n t places it some base.switch suits some_rounds (joins x f) refl serves (settles_joins x f)) starts
       (λ zero_served. let e = (Serves-once matched 0 (x + 1) 0 0 0 Uni Uni second zero_served).0 in omega arith)
-      (then after next (step.accepted x f (inl (refl, refl)) ∙ mod-eq_of_lt (omega arith)) (step.granted x f (inl (refl, refl)))
-      (λ j other. step.grant_stays j (λ i is. elim is [ inl s ↦ other s.1 | inr none ↦ none ])))
+      (then after (record {
+        base = next;
+        beyond = omega arith;
+        at = step.accepted x f (inl (refl, refl)) ∙ mod-eq_of_lt (omega arith);
+        held = λ yes. step.granted x f (inl (refl, refl));
+      }) (λ j other. step.grant_stays j (λ i is. elim is [ inl s ↦ other s.1 | inr none ↦ none ])))
 
   -- the k inputs from p on go down
-  late_climbs : (p f : ℕ) (rest : List Plan) → 0 < p → 0 < f → f < l
-      → ((t : ℕ) (places : Places) → IsBase n places p p p f → IsLateIn rounds n t places (passes p ∷ rest))
-      → (k t : ℕ) (places : Places) → p + k ≤ l → IsBase n places p p (p + k) f → IsLateIn rounds n t places (climbs l p f k (passes p ∷ rest))
-  late_climbs p f rest some_p some_f f_in then zero t places p_in base = let e : p + 0 ≡ p = omega arith in
-      then t places (subst (λ v. IsBase n places p p v f) e base)
-  late_climbs p f rest some_p some_f f_in then (suc k) t places p_in base =
+  late_climbs : (p f : ℕ) (rest : List Plan) → 0 < p → 0 < f → f < l → AreLateIn rounds n (IsBase n p p p f) (passes p ∷ rest)
+      → (k : ℕ) → p + k ≤ l → AreLateIn rounds n (IsBase n p p (p + k) f) (climbs l p f k (passes p ∷ rest))
+  late_climbs p f rest some_p some_f f_in then zero p_in t places base = let e : p + 0 ≡ p = omega arith in
+      then t places (subst (λ v. IsBase n p p v f places) e base)
+  late_climbs p f rest some_p some_f f_in then (suc k) p_in t places base =
       let x = p + k in
+      let d : Descent n l = record { p = p; x = x; f = f; some_p = some_p; above = omega arith; x_in = omega arith; some_f = some_f; f_in = f_in } in
       let u = before p k in
       let e : p + suc k ≡ x + 1 = omega arith in
       let later = climbs l p f k (passes p ∷ rest) in
-      let other = before_other p k x some_p refl in
-      late_joins p f x t places (goes l x f u later) some_p (omega arith) (omega arith) some_f f_in (subst (λ v. IsBase n places p p v f) e base)
+      late_joins d t places (goes l x f u later) (omega arith) (subst (λ v. IsBase n p p v f places) e base)
       (starts_sharings (Follows (joins x f)) l x (f + 1) (l - (f + 1)) (closes l x f u ∷ later) (joins_shares l x f (omega arith) some_f)
-      (joins_closes l x f u (omega arith) some_f other))
-      (λ after next at held stays. late_goes p x f u later some_p (omega arith) (omega arith) some_f f_in (before_is p k) other
-      (starts_climbs l p f k x rest (omega arith) some_f some_p refl)
-      (λ t places next. late_climbs p f rest some_p some_f f_in then k t places (omega arith) next)
-      (l - (f + 1)) (f + 1) (t + 1) after (omega arith) (omega arith) next at held)
+      (joins_closes l x f u (omega arith) some_f (before_other p k x some_p refl)))
+      (λ after going stays. late_goes d k later refl (starts_climbs n l d k rest refl)
+      (late_climbs p f rest some_p some_f f_in then k (omega arith)) (t + 1) after going)
 
   -- the slot in which input p takes output 0, and input 0 output 1
-  pub late_passes : (p t : ℕ) (places : Places) (rest : List Plan) → 0 < p → p < n → IsSwitch n places → grant_of places 0 0 ≡ p % n
-      → Starts (Follows (passes p)) rest
-      → ((after : Places) → IsBase n after (p + 1) n n 2 → accept_of after 0 0 ≡ 2 → IsLateIn rounds n (t + 1) after rest)
-      → IsLateIn rounds n t places (passes p ∷ rest)
-  late_passes p t places rest some_p p_in switch grant starts then =
+  pub late_passes : (p : ℕ) (rest : List Plan) → 0 < p → p < n → Starts (Follows (passes p)) rest → AreLateIn rounds n (IsBack n (p + 1) n 2) rest
+      → AreLateIn rounds n (λ places. IsSwitch n places × (grant_of places 0 0 ≡ p % n)) (passes p ∷ rest)
+  late_passes p rest some_p p_in starts then t places at =
       let it = passes p in
-      let suits = suits_passes n places p some_p p_in (grant ∙ mod-eq_of_lt p_in) in
-      let step = many_step_of rounds n t places it some switch suits some_rounds in
-      let after = (decided_in rounds n t places it).places in
+      let suits = suits_passes n places p some_p p_in (at.1 ∙ mod-eq_of_lt p_in) in
+      let step = many_step_of rounds n t places it some at.0 suits some_rounds in
       IsLateBy-before n (decided_in rounds n) t places it rest (step.serving (settles_passes p)) starts
-      (left_by_input rounds n t places it some switch suits some_rounds 1 (omega arith) (inr (inl (refl, refl))))
-      (then after (record {
-        switch = IsSwitch-after_in rounds n t places it switch;
-        grant = step.granted p 0 (inl (refl, refl));
-        fresh = λ i i_low i_high. absurd (omega arith);
-      })
-      (step.accepted 0 1 (inr (inl (refl, refl))) ∙ mod-eq_of_lt (omega arith)))
+      (left_by_input rounds n t places it some at.0 suits some_rounds 1 (omega arith) (inr (inl (refl, refl))))
+      (then (t + 1) (decided_in rounds n t places it).places (record {
+        base = record {
+          switch = IsSwitch-after_in rounds n t places it at.0;
+          grant = step.granted p 0 (inl (refl, refl));
+          fresh = λ i i_low i_high. absurd (omega arith);
+        };
+        beyond = omega arith;
+        at = step.accepted 0 1 (inr (inl (refl, refl)));
+        held = λ none. absurd (omega arith);
+      }))
 
-  -- a level: the last input points at the output after f, and the inputs from p to the last at f
-  pub late_level : (p f k : ℕ) (rest : List Plan) → 0 < p → p + k ≡ l → 0 < f → f < l → Starts (Follows (passes p)) rest
-      → ((t : ℕ) (after : Places) → IsBase n after (p + 1) n n 2 → accept_of after 0 0 ≡ 2 → IsLateIn rounds n t after rest)
-      → (t : ℕ) (places : Places) → IsBase n places p p l f → accept_of places l 0 ≡ f + 1 → grant_of places f 0 ≡ (l + 1) % n
-      → IsLateIn rounds n t places (level l p f k rest)
-  late_level p f k rest some_p all some_f f_in starts then t places base at held =
-      let how : (before p k ≡ 0) ⊎ (before p k + 1 ≡ l) = elim (before_is p k) [ inl none ↦ inl none | inr next ↦ inr (omega arith) ] in
-      late_goes p l f (before p k) (climbs l p f k (passes p ∷ rest)) some_p (omega arith) (omega arith) some_f f_in how
-      (before_other p k l some_p (sym all)) (starts_climbs l p f k l rest (omega arith) some_f some_p (sym all))
-      (λ t places next. late_climbs p f rest some_p some_f f_in
-      (λ t places next. late_passes p t places rest some_p (omega arith) next.switch next.grant starts (λ after last zero_at. then (t + 1) after last zero_at))
-      k t places (omega arith) (subst (λ v. IsBase n places p p v f) (sym all) next))
-      (l - (f + 1)) (f + 1) t places (omega arith) (omega arith) base at held
+  -- a level, in which the last input goes down first
+  pub late_level : (d : Descent n l) (k : ℕ) (rest : List Plan) → d.x ≡ l → d.p + k ≡ l → Starts (Follows (passes d.p)) rest
+      → AreLateIn rounds n (IsBack n (d.p + 1) n 2) rest → AreLateIn rounds n (IsGoing n l d (d.f + 1)) (level l d.p d.f k rest)
+  late_level d k rest last all starts then =
+      let p = d.p in
+      let f = d.f in
+      let e : d.x ≡ p + k = omega arith in
+      let later = climbs l p f k (passes p ∷ rest) in
+      subst (λ v. AreLateIn rounds n (IsGoing n l d (f + 1)) (goes l v f (before p k) later)) last
+      (late_goes d k later e (starts_climbs n l d k rest e)
+      (λ t places base. late_climbs p f rest d.some_p d.some_f d.f_in
+      (λ t places next. late_passes p rest d.some_p (omega arith) starts then t places (next.switch, next.grant))
+      k (omega arith) t places (subst (λ v. IsBase n p p v f places) e base)))
 
   -- input 0 takes output y, and input w output 1
-  pub late_resets : (p y w t : ℕ) (places : Places) (rest : List Plan) → 1 < y → y < l → 0 < w → w < n → IsBase n places p (w + 1) n 2
-      → accept_of places 0 0 ≡ y → (2 < y → grant_of places 2 0 ≡ 1) → Starts (Follows (resets y w)) rest
-      → ((after : Places) → IsBase n after p w n 2 → accept_of after 0 0 ≡ y + 1 → (2 < y + 1 → grant_of after 2 0 ≡ 1)
-      → IsLateIn rounds n (t + 1) after rest) → IsLateIn rounds n t places (resets y w ∷ rest)
-  late_resets p y w t places rest more y_in some_w w_in base at held starts then =
+  pub late_resets : (p y w : ℕ) (rest : List Plan) → y < l → 0 < w → w < n → Starts (Follows (resets y w)) rest
+      → AreLateIn rounds n (IsBack n p w (y + 1)) rest → AreLateIn rounds n (IsBack n p (w + 1) y) (resets y w ∷ rest)
+  late_resets p y w rest y_in some_w w_in starts then t places back =
       let it = resets y w in
-      let suits = suits_resets n places y w more (omega arith) some_w w_in at in
+      let base = back.base in
+      let suits = suits_resets n places y w back.beyond (omega arith) some_w w_in (back.at ∙ mod-eq_of_lt (omega arith)) in
       let step = many_step_of rounds n t places it some base.switch suits some_rounds in
       let after = (decided_in rounds n t places it).places in
-      let next : IsBase n after p w n 2 = record {
+      let next : IsBase n p w n 2 after = record {
         switch = IsSwitch-after_in rounds n t places it base.switch;
         grant = step.grant_stays 0
             (λ i is. elim is [ inl s ↦ let e = s.1 in omega arith | inr more ↦ elim more [ inl s ↦ let e = s.1 in omega arith | inr none ↦ none ] ])
@@ -341,10 +386,10 @@ module _ (rounds n l : ℕ) (two : 1 < rounds) (sum : l + 1 ≡ n) (high : 1 < l
       let held_on : 2 < y + 1 → grant_of after 2 0 ≡ 1 = λ yes. elim (cases_lt 2 y) [
         | inl later ↦ step.grant_stays 2
             (λ i is. elim is [ inl s ↦ let e = s.1 in omega arith | inr more ↦ elim more [ inl s ↦ let e = s.1 in omega arith | inr none ↦ none ] ])
-            ∙ held later
+            ∙ back.held later
         | inr now ↦ let same : y ≡ 2 = omega arith in
             subst (λ v. grant_of after v 0 ≡ 1) same (step.granted 0 y (inl (refl, refl)) ∙ mod-eq_of_lt (omega arith))
       ] in
       IsLateBy-before n (decided_in rounds n) t places it rest (step.serving (settles_resets y w)) starts
       (left_by_input rounds n t places it some base.switch suits some_rounds y (omega arith) (inl (refl, refl)))
-      (then after next (step.accepted 0 y (inl (refl, refl)) ∙ mod-eq_of_lt (omega arith)) held_on)
+      (then (t + 1) after (record { base = next; beyond = omega arith; at = step.accepted 0 y (inl (refl, refl)); held = held_on }))

@@ -43,80 +43,108 @@ crosses_by y w = record { asks = pair 0 y ∷ pair w 1 ∷ pair w 2 ∷ []; serv
 abbrev pub IsBefore : ℕ → Places → ℕ → ℕ → Type 0
 IsBefore n places x z = distance n (grant_of places 0 0) x < distance n (grant_of places 0 0) z
 
--- input x points at output y, which is not output l, and is before input 0
-pub suits_shares : (n : ℕ) (places : Places) (l x y : ℕ) → 0 < x → x < n → 0 < y → y < n → 0 < l → l < n → (y ≡ l → ⊥) → IsBefore n places x 0
-    → accept_of places x 0 ≡ y → Suits n places (shares l x y)
-suits_shares n places l x y some_x x_in some_y y_in some_l l_in other before at = record {
-  placed = ((x_in, y_in, inr (inr (inl (refl, refl)))), ((omega arith, l_in, inr (inr (inr (inl (refl, refl))))), tt));
+-- inputs and outputs of such a slot: two inputs and three outputs
+pub record CanShare (n l x y : ℕ) : Type 0 where
+  pub some_x : 0 < x
+  pub x_in : x < n
+  pub some_y : 0 < y
+  pub y_in : y < n
+  pub some_l : 0 < l
+  pub l_in : l < n
+  pub other : y ≡ l → ⊥
+
+-- input x points at output y, and is before input 0
+pub suits_shares : (n : ℕ) (places : Places) (l x y : ℕ) → CanShare n l x y → IsBefore n places x 0 → accept_of places x 0 ≡ y
+    → Suits n places (shares l x y)
+suits_shares n places l x y can before at = record {
+  placed = ((can.x_in, can.y_in, inr (inr (inl (refl, refl)))), ((omega arith, can.l_in, inr (inr (inr (inl (refl, refl))))), tt));
   near = (
     (λ e. absurd (omega arith), (λ e. absurd (omega arith), (λ e. omega arith, (λ e. absurd (omega arith), tt)))),
-    ((λ e. absurd (omega arith), (λ e. absurd (omega arith), (λ e. absurd (other e), (λ e. omega arith, tt)))), tt),
+    ((λ e. absurd (omega arith), (λ e. absurd (omega arith), (λ e. absurd (can.other e), (λ e. omega arith, tt)))), tt),
   );
   taken = (
     (
-      λ e. inl (at_first n (accept_of places x 0) y 0 y_in at),
+      λ e. inl (at_first n (accept_of places x 0) y 0 can.y_in at),
       (
-        λ e. inl (at_first n (accept_of places x 0) y 0 y_in at),
-        (λ e. inl (omega arith), (λ e. inl (at_first n (accept_of places x 0) y l y_in at), tt)),
+        λ e. inl (at_first n (accept_of places x 0) y 0 can.y_in at),
+        (λ e. inl (omega arith), (λ e. inl (at_first n (accept_of places x 0) y l can.y_in at), tt)),
       ),
     ),
-    ((λ e. inr (x, x_in, inr (inl (refl, refl)), before), (λ e. absurd (omega arith), (λ e. absurd (omega arith), (λ e. inl (omega arith), tt)))), tt),
+    ((λ e. inr (x, can.x_in, inr (inl (refl, refl)), before), (λ e. absurd (omega arith), (λ e. absurd (omega arith), (λ e. inl (omega arith), tt)))), tt),
   );
   done = (inl (l, inr (inl (refl, refl))), (inl (y, inl (refl, refl)), (inl (y, inl (refl, refl)), (inl (l, inr (inl (refl, refl))), tt))));
 }
 
+-- Input x goes down from the output after f, in a level in which output 0 points at input p.
+pub record Descent (n l : ℕ) : Type 0 where
+  pub p : ℕ
+  pub x : ℕ
+  pub f : ℕ
+  pub some_p : 0 < p
+  pub above : p ≤ x
+  pub x_in : x < n
+  pub some_f : 0 < f
+  pub f_in : f < l
+
 -- input x points at the last output, and is before input 0
-pub suits_closes : (n : ℕ) (places : Places) (l x f u : ℕ) → 0 < x → x < n → 0 < f → f < l → l < n → IsBefore n places x 0 → accept_of places x 0 ≡ l
-    → distance n (grant_of places f 0) 0 ≤ distance n (grant_of places f 0) u → Suits n places (closes l x f u)
-suits_closes n places l x f u some_x x_in some_f f_in l_in before at choice = record {
-  placed = ((x_in, l_in, inr (inr (inl (refl, refl)))), ((omega arith, omega arith, inr (inr (inr (inl (refl, refl))))), tt));
+pub suits_closes : (n : ℕ) (places : Places) (l : ℕ) (d : Descent n l) (u : ℕ) → l < n → IsBefore n places d.x 0 → accept_of places d.x 0 ≡ l
+    → distance n (grant_of places d.f 0) 0 ≤ distance n (grant_of places d.f 0) u → Suits n places (closes l d.x d.f u)
+suits_closes n places l d u l_in before at choice = record {
+  placed = ((d.x_in, l_in, inr (inr (inl (refl, refl)))), ((omega arith, omega arith, inr (inr (inr (inl (refl, refl))))), tt));
   near = (
     (λ e. absurd (omega arith), (λ e. absurd (omega arith), (λ e. omega arith, (λ e. absurd (omega arith), (λ e. absurd (omega arith), tt))))),
     ((λ e. absurd (omega arith), (λ e. absurd (omega arith), (λ e. absurd (omega arith), (λ e. omega arith, (λ e. choice, tt))))), tt),
   );
   taken = (
     (
-      λ e. inl (at_first n (accept_of places x 0) l 0 l_in at),
+      λ e. inl (at_first n (accept_of places d.x 0) l 0 l_in at),
       (
-        λ e. inl (at_first n (accept_of places x 0) l 0 l_in at),
+        λ e. inl (at_first n (accept_of places d.x 0) l 0 l_in at),
         (
           λ e. inl (omega arith),
-          (λ e. inl (at_first n (accept_of places x 0) l f l_in at), (λ e. inl (at_first n (accept_of places x 0) l f l_in at), tt)),
+          (λ e. inl (at_first n (accept_of places d.x 0) l d.f l_in at), (λ e. inl (at_first n (accept_of places d.x 0) l d.f l_in at), tt)),
         ),
       ),
     ),
     (
       (
-        λ e. inr (x, x_in, inr (inl (refl, refl)), before),
+        λ e. inr (d.x, d.x_in, inr (inl (refl, refl)), before),
         (λ e. absurd (omega arith), (λ e. absurd (omega arith), (λ e. inl (omega arith), (λ e. inl (omega arith), tt)))),
       ),
       tt,
     ),
   );
   done = (
-    inl (f, inr (inl (refl, refl))),
-    (inl (l, inl (refl, refl)), (inl (l, inl (refl, refl)), (inl (f, inr (inl (refl, refl))), (inr (inl (0, inr (inl (refl, refl)))), tt)))),
+    inl (d.f, inr (inl (refl, refl))),
+    (inl (l, inl (refl, refl)), (inl (l, inl (refl, refl)), (inl (d.f, inr (inl (refl, refl))), (inr (inl (0, inr (inl (refl, refl)))), tt)))),
   );
 }
 
--- input x points at output f, and is before all others
-pub suits_joins : (n : ℕ) (places : Places) (x f : ℕ) → x < n → 0 < f → f < n → IsBefore n places x 0 → IsBefore n places x (x + 1)
-    → accept_of places x 0 ≡ f → Suits n places (joins_first x f)
-suits_joins n places x f x_in some_f f_in before after at = record {
+-- input x points at output f, and is before input 0 and the next input
+pub record IsJoining (n : ℕ) (places : Places) (x f : ℕ) : Type 0 where
+  pub before : IsBefore n places x 0
+  pub after : IsBefore n places x (x + 1)
+  pub at : accept_of places x 0 ≡ f
+
+-- then the pointers suit the plan
+pub suits_joins : (n : ℕ) (places : Places) (x f : ℕ) → x < n → 0 < f → f < n → IsJoining n places x f → Suits n places (joins_first x f)
+suits_joins n places x f x_in some_f f_in joining = record {
   placed = ((x_in, f_in, inr (inr (inl (refl, refl)))), tt);
   near = ((λ e. absurd (omega arith), (λ e. absurd (omega arith), (λ e. omega arith, (λ e. absurd (omega arith), tt)))), tt);
   taken = (
     (
-      λ e. inl (at_first n (accept_of places x 0) f 0 f_in at),
-      (λ e. inl (at_first n (accept_of places x 0) f 0 f_in at), (λ e. inl (omega arith), (λ e. inl (at_first n (accept_of places x 0) f 0 f_in at), tt))),
+      λ e. inl to_f,
+      (λ e. inl to_f, (λ e. inl (omega arith), (λ e. inl to_f, tt))),
     ),
     tt,
   );
   done = (
-    inr (inr (x, x_in, inr (inl (refl, refl)), before)),
-    (inl (f, inl (refl, refl)), (inl (f, inl (refl, refl)), (inr (inr (x, x_in, inr (inl (refl, refl)), after)), tt))),
+    inr (inr (x, x_in, inr (inl (refl, refl)), joining.before)),
+    (inl (f, inl (refl, refl)), (inl (f, inl (refl, refl)), (inr (inr (x, x_in, inr (inl (refl, refl)), joining.after)), tt))),
   );
-}
+} where
+  to_f : distance n (accept_of places x 0) f ≤ distance n (accept_of places x 0) 0
+  to_f = at_first n (accept_of places x 0) f 0 f_in joining.at
 
 -- and the next input is second
 pub second_joins : (n : ℕ) (places : Places) (x f : ℕ) → x + 1 < n → 0 < f
@@ -161,10 +189,10 @@ suits_readies n places l more l_in at granting = record {
   done = (inl (l, inl (refl, refl)), (inl (l, inl (refl, refl)), (inl (2, inr (inl (refl, refl))), (inr (inl (1, inr (inl (refl, refl)))), tt))));
 }
 
--- the same
-pub suits_readies_too : (n : ℕ) (places : Places) (l w : ℕ) → 2 < l → l < n → 1 < w → w < l → accept_of places 0 0 ≡ l → grant_of places 2 0 ≡ 1
-    → Suits n places (readies_too l w)
-suits_readies_too n places l w more l_in some_w w_in at granting = record {
+-- the same where input 2 takes output 1
+pub suits_readies_too : (n : ℕ) (places : Places) (l : ℕ) → 2 < l → l < n → accept_of places 0 0 ≡ l → grant_of places 2 0 ≡ 1
+    → Suits n places (readies_too l 2)
+suits_readies_too n places l more l_in at granting = record {
   placed = (
     (omega arith, l_in, inr (inl (refl, refl))),
     ((omega arith, omega arith, inr (inr (inl (refl, refl)))), ((omega arith, omega arith, inr (inr (inr (inr (inl (refl, refl)))))), tt)),
@@ -195,18 +223,18 @@ suits_readies_too n places l w more l_in some_w w_in at granting = record {
   );
 }
 
--- input 0 points at output y, and output 1 is nearer to the other input's pointer than output 2
-pub suits_crosses_by : (n : ℕ) (places : Places) (y w : ℕ) → 2 < y → y < n → 0 < w → w < n → accept_of places 0 0 ≡ y
-    → distance n (accept_of places w 0) 1 ≤ distance n (accept_of places w 0) 2 → Suits n places (crosses_by y w)
-suits_crosses_by n places y w more y_in some_w w_in at accepting = record {
-  placed = ((omega arith, y_in, inr (inl (refl, refl))), ((w_in, omega arith, inr (inr (inl (refl, refl)))), tt));
+-- input 0 points at the last output, and output 1 is nearer to the last input's pointer than output 2
+pub suits_crosses_by : (n : ℕ) (places : Places) (l : ℕ) → 2 < l → l < n → accept_of places 0 0 ≡ l
+    → distance n (accept_of places l 0) 1 ≤ distance n (accept_of places l 0) 2 → Suits n places (crosses_by l l)
+suits_crosses_by n places l more l_in at accepting = record {
+  placed = ((omega arith, l_in, inr (inl (refl, refl))), ((l_in, omega arith, inr (inr (inl (refl, refl)))), tt));
   near = (
     (λ e. absurd (omega arith), (λ e. omega arith, (λ e. absurd (omega arith), (λ e. absurd (omega arith), tt)))),
     ((λ e. absurd (omega arith), (λ e. absurd (omega arith), (λ e. omega arith, (λ e. absurd (omega arith), tt)))), tt),
   );
   taken = (
-    (λ e. inl (at_first n (accept_of places 0 0) y 0 y_in at), (λ e. inl (omega arith), (λ e. absurd (omega arith), (λ e. absurd (omega arith), tt)))),
+    (λ e. inl (at_first n (accept_of places 0 0) l 0 l_in at), (λ e. inl (omega arith), (λ e. absurd (omega arith), (λ e. absurd (omega arith), tt)))),
     ((λ e. absurd (omega arith), (λ e. absurd (omega arith), (λ e. inl (omega arith), (λ e. inl accepting, tt)))), tt),
   );
-  done = (inl (y, inl (refl, refl)), (inl (y, inl (refl, refl)), (inl (1, inr (inl (refl, refl))), (inl (1, inr (inl (refl, refl))), tt))));
+  done = (inl (l, inl (refl, refl)), (inl (l, inl (refl, refl)), (inl (1, inr (inl (refl, refl))), (inl (1, inr (inl (refl, refl))), tt))));
 }

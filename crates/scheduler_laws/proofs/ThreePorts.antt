@@ -7,14 +7,14 @@ use Rattle.scheduler_laws.proofs.Plans.{Plan}
 use Rattle.scheduler_laws.proofs.PlannedRuns.{IsLateBy-before, IsLateBy-last}
 use Rattle.scheduler_laws.proofs.ManySlots.{decided_in, IsSwitch-after_in, many_step_of, left_by_input}
 use Rattle.scheduler_laws.proofs.Shapes.{takes, ends, passes, wins, suits_takes, suits_ends, suits_wins}
-use Rattle.scheduler_laws.proofs.MoreShapes.{closes, joins}
+use Rattle.scheduler_laws.proofs.MoreShapes.{closes, joins, Descent}
 use Rattle.scheduler_laws.proofs.ThreeShapes.{meets, waits, leaves, returns_to, suits_meets, suits_waits, suits_leaves, suits_returns}
 use Rattle.scheduler_laws.proofs.ThreeShapes.{wins_meets, meets_closes, joins_waits, waits_leaves, leaves_returns, returns_closes}
 use Rattle.scheduler_laws.proofs.ThreeShapes.{settles_meets, settles_waits, settles_leaves, settles_returns}
 use Rattle.scheduler_laws.proofs.Settled.{settles_takes, settles_ends, settles_wins}
 use Rattle.scheduler_laws.proofs.Followings.{passes_takes, takes_ends}
 use Rattle.scheduler_laws.proofs.MoreFollowings.{closes_joins, closes_passes}
-use Rattle.scheduler_laws.proofs.MoreRoundsFamily.{IsBase, IsLateIn, late_closes, late_joins, late_passes}
+use Rattle.scheduler_laws.proofs.MoreRoundsFamily.{IsBase, IsBack, IsLateIn, late_closes, late_joins, late_passes}
 
 -- the last six slots
 abbrev rest_of : List Plan
@@ -28,13 +28,23 @@ falls = closes 2 2 1 1 ∷ joins 1 1 ∷ waits ∷ rest_of
 abbrev pub three : List Plan
 three = wins 1 2 ∷ meets ∷ falls
 
+-- input 2 goes down first, then input 1, and input 2 once more
+abbrev two_first : Descent 3 2
+two_first = record { p = 1; x = 2; f = 1; some_p = omega arith; above = omega arith; x_in = omega arith; some_f = omega arith; f_in = omega arith }
+
+abbrev one_first : Descent 3 2
+one_first = record { p = 1; x = 1; f = 1; some_p = omega arith; above = omega arith; x_in = omega arith; some_f = omega arith; f_in = omega arith }
+
+abbrev two_last : Descent 3 2
+two_last = record { p = 2; x = 2; f = 1; some_p = omega arith; above = omega arith; x_in = omega arith; some_f = omega arith; f_in = omega arith }
+
 -- ---- the pointers along them
 -- the last two slots
-late_last : (rounds t : ℕ) (places : Places) → 1 < rounds → IsBase 3 places 3 3 3 2 → accept_of places 0 0 ≡ 2
-    → IsLateIn rounds 3 t places (takes 0 2 ∷ ends 0 ∷ [])
-late_last rounds t places two base at =
+late_last : (rounds t : ℕ) (places : Places) → 1 < rounds → IsBack 3 3 3 2 places → IsLateIn rounds 3 t places (takes 0 2 ∷ ends 0 ∷ [])
+late_last rounds t places two back =
+    let base = back.base in
     let it = takes 0 2 in
-    let suits = suits_takes 3 places 0 2 (omega arith) (omega arith) (omega arith) (inl refl) at in
+    let suits = suits_takes 3 places 0 2 (omega arith) (omega arith) (omega arith) (inl refl) back.at in
     let step = many_step_of rounds 3 t places it (omega arith) base.switch suits (omega arith) in
     let after = (decided_in rounds 3 t places it).places in
     let switch = IsSwitch-after_in rounds 3 t places it base.switch in
@@ -53,7 +63,7 @@ late_returns rounds t places two switch grant at granting other =
     let step = many_step_of rounds 3 t places it (omega arith) switch suits (omega arith) in
     let after = (decided_in rounds 3 t places it).places in
     let later = passes 2 ∷ takes 0 2 ∷ ends 0 ∷ [] in
-    let next : IsBase 3 after 2 2 2 2 = record {
+    let next : IsBase 3 2 2 2 1 after = record {
       switch = IsSwitch-after_in rounds 3 t places it switch;
       grant = step.grant_stays 0
           (λ i is. elim is [ inl s ↦ let e = s.1 in omega arith | inr more ↦ elim more [ inl s ↦ let e = s.1 in omega arith | inr none ↦ none ] ]) ∙ grant;
@@ -61,11 +71,15 @@ late_returns rounds t places two switch grant at granting other =
     } in
     IsLateBy-before 3 (decided_in rounds 3) t places it (closes 2 2 1 0 ∷ later) (step.serving settles_returns) returns_closes
     (left_by_input rounds 3 t places it (omega arith) switch suits (omega arith) 2 (omega arith) (inl (refl, refl)))
-    (late_closes rounds 3 2 two refl (omega arith) 2 2 2 1 0 (t + 1) after later (omega arith) (omega arith) (omega arith) (omega arith) (omega arith)
-    (inl refl) next (step.accepted 2 1 (inr (inl (refl, refl)))) (step.granted 2 1 (inr (inl (refl, refl)))) (closes_passes 2 2 1 (omega arith) (omega arith))
-    (λ after base last. late_passes rounds 3 2 two refl (omega arith) 2 (t + 1 + 1) after (takes 0 2 ∷ ends 0 ∷ []) (omega arith)
-    (omega arith) base.switch base.grant (passes_takes 2 (omega arith))
-    (λ after base at. late_last rounds (t + 1 + 1 + 1) after two base at)))
+    (late_closes rounds 3 2 two refl (omega arith) two_last 0 later (inl refl) (closes_passes 2 2 1 (omega arith) (omega arith))
+    (λ t after closed. late_passes rounds 3 2 two refl (omega arith) 2 (takes 0 2 ∷ ends 0 ∷ []) (omega arith) (omega arith)
+    (passes_takes 2 (omega arith)) (λ t after back. late_last rounds t after two back) t after (closed.0.switch, closed.0.grant))
+    (t + 1) after (record {
+      base = next;
+      beyond = omega arith;
+      at = step.accepted 2 1 (inr (inl (refl, refl)));
+      held = λ yes. step.granted 2 1 (inr (inl (refl, refl)));
+    }))
 
 -- the slot in which input 1 takes output 0, and those after it
 late_leaves : (rounds t : ℕ) (places : Places) → 1 < rounds → IsSwitch 3 places → grant_of places 0 0 ≡ 1 → IsLateIn rounds 3 t places rest_of
@@ -95,13 +109,13 @@ late_waits rounds t places two switch grant at held =
     (late_leaves rounds (t + 1) after two (IsSwitch-after_in rounds 3 t places it switch) granting)
 
 -- the slot in which input 2 takes output 1, and those after it
-late_meets : (rounds t : ℕ) (places : Places) → 1 < rounds → IsBase 3 places 1 1 3 1 → accept_of places 0 0 ≡ 2 → IsLateIn rounds 3 t places (meets ∷ falls)
+late_meets : (rounds t : ℕ) (places : Places) → 1 < rounds → IsBase 3 1 1 3 1 places → accept_of places 0 0 ≡ 2 → IsLateIn rounds 3 t places (meets ∷ falls)
 late_meets rounds t places two base at =
     let it = meets in
     let suits = suits_meets places at (base.fresh 2 (omega arith) (omega arith)) in
     let step = many_step_of rounds 3 t places it (omega arith) base.switch suits (omega arith) in
     let after = (decided_in rounds 3 t places it).places in
-    let next : IsBase 3 after 1 1 2 1 = record {
+    let next : IsBase 3 1 1 2 1 after = record {
       switch = IsSwitch-after_in rounds 3 t places it base.switch;
       grant = step.grant_stays 0
           (λ i is. elim is [ inl s ↦ let e = s.1 in omega arith | inr more ↦ elim more [ inl s ↦ let e = s.1 in omega arith | inr none ↦ none ] ]) ∙ base.grant;
@@ -111,15 +125,19 @@ late_meets rounds t places two base at =
     } in
     IsLateBy-before 3 (decided_in rounds 3) t places it falls (step.serving settles_meets) meets_closes
     (left_by_input rounds 3 t places it (omega arith) base.switch suits (omega arith) 2 (omega arith) (inl (refl, refl)))
-    (late_closes rounds 3 2 two refl (omega arith) 1 1 2 1 1 (t + 1) after (joins 1 1 ∷ waits ∷ rest_of) (omega arith) (omega arith) (omega arith)
-    (omega arith) (omega arith) (inr refl) next (step.accepted 2 1 (inr (inl (refl, refl)))) (step.granted 2 1 (inr (inl (refl, refl))))
+    (late_closes rounds 3 2 two refl (omega arith) two_first 1 (joins 1 1 ∷ waits ∷ rest_of) (inr refl)
     (closes_joins 2 2 1 1 (omega arith) (omega arith) (omega arith) refl)
-    (λ after base last. late_joins rounds 3 2 two refl (omega arith) 1 1 1 (t + 1 + 1) after (waits ∷ rest_of) (omega arith) (omega arith) (omega arith)
-    (omega arith) (omega arith) base joins_waits
-    (λ after base at held stays. late_waits rounds (t + 1 + 1 + 1) after two base.switch base.grant at (stays 2 (λ e. omega arith) ∙ last))))
+    (λ t after closed. late_joins rounds 3 2 two refl (omega arith) one_first t after (waits ∷ rest_of) (omega arith) closed.0 joins_waits
+    (λ after going stays. late_waits rounds (t + 1) after two going.base.switch going.base.grant going.at (stays 2 (λ e. omega arith) ∙ closed.1)))
+    (t + 1) after (record {
+      base = next;
+      beyond = omega arith;
+      at = step.accepted 2 1 (inr (inl (refl, refl)));
+      held = λ yes. step.granted 2 1 (inr (inl (refl, refl)));
+    }))
 
 -- where output 0 and all inputs point at port 1, and output 1 at port 0
-pub late_three : (rounds t : ℕ) (places : Places) → 1 < rounds → IsBase 3 places 1 1 3 1 → accept_of places 0 0 ≡ 1 → grant_of places 1 0 ≡ 0
+pub late_three : (rounds t : ℕ) (places : Places) → 1 < rounds → IsBase 3 1 1 3 1 places → accept_of places 0 0 ≡ 1 → grant_of places 1 0 ≡ 0
     → IsLateIn rounds 3 t places three
 late_three rounds t places two base at zero_at =
     let first = wins 1 2 in
@@ -128,7 +146,7 @@ late_three rounds t places two base at zero_at =
     let after = (decided_in rounds 3 t places first).places in
     let fresh : (i : ℕ) → 1 ≤ i → i < 3 → accept_of after i 0 ≡ 1 = λ i i_low i_high. step.accept_stays i
     (λ j is. elim is [ inl s ↦ let e = s.0 in omega arith | inr none ↦ none ]) ∙ base.fresh i i_low i_high in
-    let next : IsBase 3 after 1 1 3 1 = record {
+    let next : IsBase 3 1 1 3 1 after = record {
       switch = IsSwitch-after_in rounds 3 t places first base.switch;
       grant = step.grant_stays 0 (λ i is. elim is [ inl s ↦ let e = s.1 in omega arith | inr none ↦ none ]) ∙ base.grant;
       fresh = fresh;
