@@ -132,7 +132,7 @@ module _ (rounds n l : ℕ) (two : 1 < rounds) (sum : l + 1 ≡ n) (high : 2 < l
   late_boths zero y t places some_y all base at near = late_crosses rounds n l two sum high t places base (at ∙ omega arith) near
   late_boths (suc k) y t places some_y all base at near =
       let it = both y l in
-      let suits = suits_both n places y l (omega arith) (omega arith) (omega arith) (λ e. omega arith) (omega arith) (omega arith) at in
+      let suits = suits_both n places y l some_y (omega arith) (omega arith) (omega arith) at in
       let step = many_step_of rounds n t places it (omega arith) base.switch suits (omega arith) in
       let after = (decided_in rounds n t places it).places in
       let three : accept_of after l 0 ≡ 3 = step.accepted l 2 (inr (inl (refl, refl))) ∙ mod-eq_of_lt (omega arith) in

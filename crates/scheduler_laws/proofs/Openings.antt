@@ -65,6 +65,7 @@ module _ (n : ℕ) (more : 1 < n) (rest : List Plan) (starts : Starts (Follows a
         λ m. record {
           switch = IsSwitch-after n t places again opened.switch;
           grant = step.granted 0 0 (inl (refl, refl));
+          beyond = omega arith;
           accept = step.accepted 0 0 (inl (refl, refl));
           fresh = λ i late i_in. step.accept_stays i (λ j is. elim is [ inl s ↦ let e = s.0 in omega arith | inr none ↦ none ])
               ∙ opened.accepts i (omega arith) ∙ mod-eq_of_lt (omega arith);

@@ -108,22 +108,28 @@ suits_passes n places x some x_in at = record {
   done = (inl (1, inr (inl (refl, refl))), (inl (0, inl (refl, refl)), (inl (1, inr (inl (refl, refl))), tt)));
 }
 
--- The third request is of input 1 or for output 1; where output 1 or input 1 has the choice, its pointer is nearer to the
--- other.
-pub suits_crosses : (n : ℕ) (places : Places) (y u v : ℕ) → 1 < y → y < n → 0 < u → (v ≡ y → ⊥) → accept_of places 0 0 ≡ y → (v ≡ 1 → grant_of places 1 0 ≡ 1)
-    → (u ≡ 1 → distance n (accept_of places 1 0) 1 ≤ distance n (accept_of places 1 0) v) → (v ≡ 1) ⊎ (u ≡ 1) → Suits n places (crosses y u v)
-suits_crosses n places y u v more y_in some other at granting accepting how = record {
+-- Input 0 points at output y, and input u asks output v: output 1, which points at input 1, or it is input 1, whose pointer is
+-- nearer to output 1.
+pub record IsCrossing (n y u v : ℕ) (places : Places) : Type 0 where
+  pub at : accept_of places 0 0 ≡ y
+  pub some : 0 < u
+  pub other : v ≡ y → ⊥
+  pub how : ((v ≡ 1) × (grant_of places 1 0 ≡ 1)) ⊎ ((u ≡ 1) × (distance n (accept_of places 1 0) 1 ≤ distance n (accept_of places 1 0) v))
+
+-- so the pointers suit the plan
+pub suits_crosses : (n : ℕ) (places : Places) (y u v : ℕ) → 1 < y → y < n → IsCrossing n y u v places → Suits n places (crosses y u v)
+suits_crosses n places y u v more y_in crossing = record {
   placed = ((omega arith, y_in, inr (inl (refl, refl))), ((omega arith, omega arith, inr (inr (inl (refl, refl)))), tt));
   near = (
-    (λ e. absurd (omega arith), (λ e. omega arith, (λ e. absurd (omega arith), (λ e. absurd (other e), tt)))),
-    (
-      (λ e. absurd (omega arith), (λ e. absurd (omega arith), (λ e. omega arith, (λ e. at_first n (grant_of places 1 0) 1 u (omega arith) (granting e), tt)))),
-      tt,
-    ),
+    (λ e. absurd (omega arith), (λ e. omega arith, (λ e. absurd (omega arith), (λ e. absurd (crossing.other e), tt)))),
+    ((λ e. absurd (omega arith), (λ e. absurd (omega arith), (λ e. omega arith, (λ e. granting, tt)))), tt),
   );
   taken = (
-    (λ e. inl (at_first n (accept_of places 0 0) y 0 y_in at), (λ e. inl (omega arith), (λ e. absurd (omega arith), (λ e. absurd (omega arith), tt)))),
-    ((λ e. absurd (omega arith), (λ e. absurd (omega arith), (λ e. inl (omega arith), (λ e. inl (accepting e), tt)))), tt),
+    (
+      λ e. inl (at_first n (accept_of places 0 0) y 0 y_in crossing.at),
+      (λ e. inl (omega arith), (λ e. absurd (omega arith), (λ e. let some = crossing.some in absurd (omega arith), tt))),
+    ),
+    ((λ e. absurd (omega arith), (λ e. absurd (omega arith), (λ e. inl (omega arith), (λ e. inl accepting, tt)))), tt),
   );
   done = (
     inl (y, inl (refl, refl)),
@@ -132,22 +138,32 @@ suits_crosses n places y u v more y_in some other at granting accepting how = re
       (
         inl (1, inr (inl (refl, refl))),
         (
-          elim how [
-            | inl output ↦ inr (inl (1, inr (inl (refl, output))))
-            | inr input ↦ inl (1, inr (inl (input, refl)))
+          elim crossing.how [
+            | inl output ↦ inr (inl (1, inr (inl (refl, output.0))))
+            | inr input ↦ inl (1, inr (inl (input.0, refl)))
           ],
           tt,
         ),
       ),
     ),
   );
-}
+} where
+  granting : distance n (grant_of places 1 0) 1 ≤ distance n (grant_of places 1 0) u
+  granting = elim crossing.how [
+    | inl output ↦ at_first n (grant_of places 1 0) 1 u (omega arith) output.1
+    | inr input ↦ let same = ap (distance n (grant_of places 1 0)) input.0 in omega arith
+  ]
+
+  accepting : distance n (accept_of places 1 0) 1 ≤ distance n (accept_of places 1 0) v
+  accepting = elim crossing.how [
+    | inl output ↦ let same = ap (distance n (accept_of places 1 0)) output.0 in omega arith
+    | inr input ↦ input.1
+  ]
 
 -- input 0 points at output y
-pub suits_both : (n : ℕ) (places : Places) (y w : ℕ) → 0 < y → y < n → 2 < n → (y ≡ 2 → ⊥) → 0 < w → w < n → accept_of places 0 0 ≡ y
-    → Suits n places (both y w)
-suits_both n places y w some y_in more other some_w w_in at = record {
-  placed = ((omega arith, y_in, inr (inl (refl, refl))), ((w_in, more, inr (inr (inl (refl, refl)))), tt));
+pub suits_both : (n : ℕ) (places : Places) (y w : ℕ) → 2 < y → y < n → 0 < w → w < n → accept_of places 0 0 ≡ y → Suits n places (both y w)
+suits_both n places y w high y_in some_w w_in at = record {
+  placed = ((omega arith, y_in, inr (inl (refl, refl))), ((w_in, omega arith, inr (inr (inl (refl, refl)))), tt));
   near = (
     (λ e. absurd (omega arith), (λ e. omega arith, (λ e. absurd (omega arith), tt))),
     ((λ e. absurd (omega arith), (λ e. absurd (omega arith), (λ e. omega arith, tt))), tt),
