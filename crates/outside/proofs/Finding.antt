@@ -38,22 +38,22 @@ not_found name fs at =
 pub name_is : (name : List ℕ) (fs : List FileState) (i : ℕ) (d : FileState) → position (λ f. bytes_eq name f.name) fs ≡ Some i → name ≡ (get_or fs i d).name
 name_is name fs i d at = (bytes_eq-Decides name (get_or fs i d).name).0 (position-Some (λ (f : FileState). bytes_eq name f.name) fs i d at).1
 
-put_at : (name n : List ℕ) (fs : List FileState) (i : ℕ) (d after : FileState) → position (λ f. bytes_eq name f.name) fs ≡ Some i → after.name ≡ name
+put_at : (name n : List ℕ) (fs : List FileState) (i : ℕ) (after : FileState) → position (λ f. bytes_eq name f.name) fs ≡ Some i → after.name ≡ name
     → (same : Bool) → bytes_eq n name ≡ same → file_named n (set fs i after) ≡ cond same (Some after) (file_named n fs)
-put_at name n fs i d after at is true same =
+put_at name n fs i after at is true same =
     let e : n ≡ name = (bytes_eq-Decides n name).0 same in
-    let within : i < length fs = (position-Some (λ (f : FileState). bytes_eq name f.name) fs i d at).0 in
+    let within : i < length fs = (position-Some (λ (f : FileState). bytes_eq name f.name) fs i after at).0 in
     let passes : bytes_eq name after.name ≡ true = rw is (bytes_eq-same name) in
     rw e (find-set (λ (f : FileState). bytes_eq name f.name) fs i after (place_is name fs i at) within passes)
-put_at name n fs i d after at is false same =
-    let old : bytes_eq n (get_or fs i d).name ≡ false = rw (← name_is name fs i d at) same in
+put_at name n fs i after at is false same =
+    let old : bytes_eq n (get_or fs i after).name ≡ false = rw (← name_is name fs i after at) same in
     let new : bytes_eq n after.name ≡ false = rw is same in
-    find_past (λ (f : FileState). bytes_eq n f.name) fs i after d old new
+    find_past (λ (f : FileState). bytes_eq n f.name) fs i after after old new
 
 -- a file that is written over the one that its name finds
-pub put : (name : List ℕ) (fs : List FileState) (i : ℕ) (d after : FileState) → position (λ f. bytes_eq name f.name) fs ≡ Some i → after.name ≡ name
+pub put : (name : List ℕ) (fs : List FileState) (i : ℕ) (after : FileState) → position (λ f. bytes_eq name f.name) fs ≡ Some i → after.name ≡ name
     → PutsFile fs (set fs i after) name after
-put name fs i d after at is = record { finds = λ n. put_at name n fs i d after at is (bytes_eq n name) refl }
+put name fs i after at is = record { finds = λ n. put_at name n fs i after at is (bytes_eq n name) refl }
 
 or_none : (o : Option FileState) → option_or o None ≡ o
 or_none None = refl
@@ -77,7 +77,7 @@ pub put_here : (name : List ℕ) (fs : List FileState) (i : ℕ) (d after : File
     → (file_named name fs ≡ Some d) × PutsFile fs (set fs i after) name after
 put_here name fs i d after at here is =
     let own : d.name ≡ name = ap (λ f. f.name) here ∙ sym (name_is name fs i d at) in
-    (found name fs i d at ∙ ap Some (sym here), put name fs i d after at (is ∙ own))
+    (found name fs i d at ∙ ap Some (sym here), put name fs i after at (is ∙ own))
 
 pub own_name : (name : List ℕ) (fs : List FileState) (i : ℕ) (d : FileState) → position (λ f. bytes_eq name f.name) fs ≡ Some i → d ≡ get_or fs i d
     → d.name ≡ name

@@ -47,11 +47,6 @@ pub longers : (o : Option Contents) (name out buf : List ℕ) (room k : ℕ) →
 longers None name out buf room k front piece = tt
 longers (Some c) name out buf room k front piece = longer (c.file name) out buf room k front piece
 
--- what a read said, at numbers that are equal
-pub piece_here : (o : Option Contents) (name : List ℕ) (at : ℕ) (n room : ℕ) (buf : List ℕ) (k m : ℕ) → at ≡ n → k ≡ m
-    → IfSome o (λ c. GivesPiece (c.file name) at room buf k) → IfSome o (λ c. GivesPiece (c.file name) n room buf m)
-piece_here o name at n room buf k m a b h = rw (← a, ← b) h
-
 -- what an append left, where it did not fail
 pub appended : {T E : Type 0} → (r : Result T E) (new old more : List ℕ) → new ≡ (if is_ok r then old ++ more else old) → is_ok r ≡ true → new ≡ old ++ more
 appended r new old more e ok = rw ok at e

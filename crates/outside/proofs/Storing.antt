@@ -12,29 +12,36 @@ use Rattle.outside.specs.declared.memory_files.calls.CallCounts.{CallCounts}
 
 -- One file in place of another under a name
 
-finds_same : (name n : List ℕ) (fs : List FileState) (f : FileState) → file_named name fs ≡ Some f → bytes_eq n name ≡ true → file_named n fs ≡ Some f
-finds_same name n fs f there same = let e : n ≡ name = (bytes_eq-Decides n name).0 same in rw e there
+-- The name found one file, and finds another in its place now; all other names find what they found.
+pub record IsChanged (name : List ℕ) (old new : List FileState) : Type 0 where
+  pub was : FileState
+  pub now : FileState
+  pub there : file_named name old ≡ Some was
+  pub puts : PutsFile old new name now
+
+-- a name that is the same finds the same
+finds_same : (name n : List ℕ) (fs : List FileState) (o : Option FileState) → file_named name fs ≡ o → bytes_eq n name ≡ true → file_named n fs ≡ o
+finds_same name n fs o there same = let e : n ≡ name = (bytes_eq-Decides n name).0 same in rw e there
 
 -- what the new file has as the old one, each name finds as before
-kept_at : {X : Type 0} (g : FileState → X) (name n : List ℕ) (old : List FileState) (f after : FileState) → file_named name old ≡ Some f → g after ≡ g f
-    → (same : Bool) → bytes_eq n name ≡ same → option_map g (cond same (Some after) (file_named n old)) ≡ option_map g (file_named n old)
-kept_at g name n old f after there e true same = ap Some e ∙ sym (ap (option_map g) (finds_same name n old f there same))
-kept_at g name n old f after there e false same = refl
+kept_at : {X : Type 0} (g : FileState → X) (same : Bool) (o : Option FileState) (f after : FileState) → (same ≡ true → o ≡ Some f) → g after ≡ g f
+    → option_map g (cond same (Some after) o) ≡ option_map g o
+kept_at g true o f after there e = ap Some e ∙ sym (ap (option_map g) (there refl))
+kept_at g false o f after there e = refl
 
-kept : {X : Type 0} (g : FileState → X) (name n : List ℕ) (old new : List FileState) (f after : FileState) → file_named name old ≡ Some f
-    → PutsFile old new name after → g after ≡ g f
-    → option_map g (file_named n new) ≡ option_map g (file_named n old)
-kept g name n old new f after there puts e = ap (option_map g) (puts.finds n) ∙ kept_at g name n old f after there e (bytes_eq n name) refl
+kept : {X : Type 0} (g : FileState → X) (name : List ℕ) (old new : List FileState) (c : IsChanged name old new) → g c.now ≡ g c.was
+    → (n : List ℕ) → option_map g (file_named n new) ≡ option_map g (file_named n old)
+kept g name old new c e n =
+    ap (option_map g) (c.puts.finds n) ∙ kept_at g (bytes_eq n name) (file_named n old) c.was c.now (finds_same name n old (Some c.was) c.there) e
 
 -- A failed call
 
 -- a change of a file's counts alone changes no content
-counted_contents : (name : List ℕ) (old new : List FileState) (f after : FileState) → file_named name old ≡ Some f → PutsFile old new name after
-    → after.bytes ≡ f.bytes → after.begun ≡ f.begun
+counted_contents : (name : List ℕ) (old new : List FileState) (c : IsChanged name old new) → c.now.bytes ≡ c.was.bytes → c.now.begun ≡ c.was.begun
     → (out err : List ℕ) → contents_among new out err ≡ contents_among old out err
-counted_contents name old new f after there puts bytes begun out err = λ j. record {
-  file = λ n. kept (λ (g : FileState). g.bytes) name n old new f after there puts bytes j;
-  begun = λ n. unwrap_or (kept (λ (g : FileState). g.begun) name n old new f after there puts begun j) false;
+counted_contents name old new c bytes begun out err = λ j. record {
+  file = λ n. kept (λ (g : FileState). g.bytes) name old new c bytes n j;
+  begun = λ n. unwrap_or (kept (λ (g : FileState). g.begun) name old new c begun n j) false;
   out = out;
   err = err;
 }
@@ -44,7 +51,7 @@ found_counts : (call : Call) (name n : List ℕ) (old : List FileState) (f : Fil
     → unwrap_or (option_map (λ (g : FileState). g.faults) (cond same (Some (record f { faults = one_more call f.faults })) (file_named n old))) was
     ≡ cond (same || (is_none (option_map (λ (g : FileState). g.bytes) (file_named name old))
     && is_none (option_map (λ (g : FileState). g.bytes) (file_named n old)))) (one_more call (counts_at old was n)) (counts_at old was n)
-found_counts call name n old f was there true same = rw (finds_same name n old f there same) refl
+found_counts call name n old f was there true same = rw (finds_same name n old (Some f) there same) refl
 found_counts call name n old f was there false same = rw there refl
 
 -- it counts in the file of its name
@@ -52,25 +59,21 @@ pub counted_found : (call : Call) (name : List ℕ) (old new : List FileState) (
     → PutsFile old new name (record f { faults = one_more call f.faults })
     → CountsFault call name old new was was
 counted_found call name old new f was there puts = record {
-  contents = counted_contents name old new f (record f { faults = one_more call f.faults }) there puts refl refl;
+  contents = counted_contents name old new (record { was = f; now = record f { faults = one_more call f.faults }; there = there; puts = puts }) refl refl;
   counts = λ n. ap (λ o. unwrap_or (option_map (λ (g : FileState). g.faults) o) was) (puts.finds n)
       ∙ found_counts call name n old f was there (bytes_eq n name) refl;
   out = refl;
   err = refl;
 }
 
-missing_counts : (call : Call) (name n : List ℕ) (old : List FileState) (was : CallCounts) → file_named name old ≡ None
-    → (o : Option FileState) → file_named n old ≡ o → (same : Bool) → bytes_eq n name ≡ same
+missing_counts : (call : Call) (was : CallCounts) (same : Bool) (o : Option FileState) → (same ≡ true → o ≡ None)
     → unwrap_or (option_map (λ (g : FileState). g.faults) o) (one_more call was)
-    ≡ cond (same || (is_none (option_map (λ (g : FileState). g.bytes) (file_named name old)) && is_none (option_map (λ (g : FileState). g.bytes) o)))
-    (one_more call (unwrap_or (option_map (λ (g : FileState). g.faults) o) was)) (unwrap_or (option_map (λ (g : FileState). g.faults) o) was)
-missing_counts call name n old was none None at true same = refl
-missing_counts call name n old was none None at false same = rw none refl
-missing_counts call name n old was none (Some f) at true same =
-    let e : n ≡ name = (bytes_eq-Decides n name).0 same in
-    let there : file_named name old ≡ Some f = rw (← e) at in
-    absurd (cc)
-missing_counts call name n old was none (Some f) at false same = rw none refl
+    ≡ cond (same || is_none (option_map (λ (g : FileState). g.bytes) o)) (one_more call (unwrap_or (option_map (λ (g : FileState). g.faults) o) was))
+    (unwrap_or (option_map (λ (g : FileState). g.faults) o) was)
+missing_counts call was true None none = refl
+missing_counts call was false None none = refl
+missing_counts call was true (Some f) none = let at = none refl in absurd (cc)
+missing_counts call was false (Some f) none = refl
 
 others_kept : (call : Call) (was : CallCounts) → NamesFile call → ((one_more call was).out ≡ was.out) × ((one_more call was).err ≡ was.err)
 others_kept Read was names = (refl, refl)
@@ -83,7 +86,7 @@ pub counted_missing : (call : Call) (name : List ℕ) (old : List FileState) (wa
     → CountsFault call name old old was (one_more call was)
 counted_missing call name old was names none = record {
   contents = λ out err. refl;
-  counts = λ n. missing_counts call name n old was none (file_named n old) refl (bytes_eq n name) refl;
+  counts = λ n. rw none (missing_counts call was (bytes_eq n name) (file_named n old) (finds_same name n old None none));
   out = (others_kept call was names).0;
   err = (others_kept call was names).1;
 }
@@ -154,21 +157,18 @@ pub begun_is_there : (o : Option FileState) → o ≡ None → unwrap_or (option
 begun_is_there None none begun = absurd (cc)
 begun_is_there (Some f) none begun = absurd (cc)
 
-appended_file : (name n : List ℕ) (old : List FileState) (f after : FileState) (more : List ℕ) → file_named name old ≡ Some f → after.bytes ≡ f.bytes ++ more
-    → (same : Bool) → bytes_eq n name ≡ same
-    → option_map (λ (g : FileState). g.bytes) (cond same (Some after) (file_named n old))
-    ≡ cond same (option_map (λ bytes. bytes ++ more) (option_map (λ (g : FileState). g.bytes) (file_named n old)))
-    (option_map (λ (g : FileState). g.bytes) (file_named n old))
-appended_file name n old f after more there e true same = rw (finds_same name n old f there same) (ap Some e)
-appended_file name n old f after more there e false same = refl
+appended_file : (same : Bool) (o : Option FileState) (f after : FileState) (more : List ℕ) → (same ≡ true → o ≡ Some f) → after.bytes ≡ f.bytes ++ more
+    → option_map (λ (g : FileState). g.bytes) (cond same (Some after) o)
+    ≡ cond same (option_map (λ bytes. bytes ++ more) (option_map (λ (g : FileState). g.bytes) o)) (option_map (λ (g : FileState). g.bytes) o)
+appended_file true o f after more there e = rw (there refl) (ap Some e)
+appended_file false o f after more there e = refl
 
-pub appended_contents : (name : List ℕ) (old new : List FileState) (f after : FileState) (more out err : List ℕ) → file_named name old ≡ Some f
-    → PutsFile old new name after
-    → after.bytes ≡ f.bytes ++ more → after.begun ≡ f.begun
+pub appended_contents : (name : List ℕ) (old new : List FileState) (c : IsChanged name old new) (more out err : List ℕ)
+    → c.now.bytes ≡ c.was.bytes ++ more → c.now.begun ≡ c.was.begun
     → contents_among new out err ≡ append_file name more (contents_among old out err)
-appended_contents name old new f after more out err there puts bytes begun = λ j. record {
+appended_contents name old new c more out err bytes begun = λ j. record {
   file = λ n. appended_file_at n j;
-  begun = λ n. unwrap_or (kept (λ (g : FileState). g.begun) name n old new f after there puts begun j) false;
+  begun = λ n. unwrap_or (kept (λ (g : FileState). g.begun) name old new c begun n j) false;
   out = out;
   err = err;
 }
@@ -176,7 +176,8 @@ appended_contents name old new f after more out err there puts bytes begun = λ 
     appended_file_at : (n : List ℕ) → option_map (λ (g : FileState). g.bytes) (file_named n new)
         ≡ cond (bytes_eq n name) (option_map (λ bytes. bytes ++ more) (option_map (λ (g : FileState). g.bytes) (file_named n old)))
         (option_map (λ (g : FileState). g.bytes) (file_named n old))
-    appended_file_at n = ap (option_map (λ (g : FileState). g.bytes)) (puts.finds n) ∙ appended_file name n old f after more there bytes (bytes_eq n name) refl
+    appended_file_at n = ap (option_map (λ (g : FileState). g.bytes)) (c.puts.finds n)
+        ∙ appended_file (bytes_eq n name) (file_named n old) c.was c.now more (finds_same name n old (Some c.was) c.there) bytes
 
 -- Counts that stay at each name stay at each place
 

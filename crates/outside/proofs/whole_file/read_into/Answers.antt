@@ -1,6 +1,6 @@
-use Rattle.std.proofs.Common.{rules, ◌≡◌, ◌≤◌, ◌+◌, ◌-◌, ◌++◌, length, take, refl, ◌∙◌, arith, length-append}
+use Rattle.std.proofs.Common.{rules, ◌≡◌, ◌≤◌, ◌+◌, ◌-◌, ◌++◌, length, take, ◌∙◌, arith, length-append}
 use Rattle.std.proofs.lemmas.List.{length-take-le}
-use Rattle.outside.proofs.Fronts.{wholes, longers, piece_here, appended}
+use Rattle.outside.proofs.Fronts.{wholes, longers, appended}
 use Rattle.outside.proofs.Staying.{IfSome-Stays, Stays-trans}
 use Rattle.outside.proofs.whole_file.read_into.Goals as goal
 
@@ -10,7 +10,7 @@ returns-then-count-eq0-clause-bytes g c d =
     let n : c.len.result ≡ length c.loop-count.bytes.items = search rules in
     wholes (see c.read.new.self) c.args.name.now c.loop-count.bytes.items c.read.new.buf (length c.loop-count.buf)
     (IfSome-Stays (see c.loop-count.files) (see c.read.new.self) _ (c.in_ok-count.ensures.seen d) (c.loop-count.invariant.front d))
-    (piece_here _ _ _ _ _ _ _ _ n c.if-count-eq0.true (c.in_ok-count.ensures.piece d))
+    (rw (n, c.if-count-eq0.true) at (c.in_ok-count.ensures.piece d))
     (omega (arith, c.loop-count.auto.buf, c.requires.room))
 
 pub loop-count-preserved : goal.loop-count-preserved
@@ -37,5 +37,5 @@ loop-count-preserved g c =
       front = λ d. rw e (longers (see d c.read.new.self) c.args.name.now c.loop-count.bytes.items c.read.new.buf (length c.loop-count.buf)
           c.in_ok-count.count
           (IfSome-Stays (see d c.loop-count.files) (see d c.read.new.self) _ (c.in_ok-count.ensures.seen d) (c.loop-count.invariant.front d))
-          (piece_here _ _ _ _ _ _ _ _ n refl (c.in_ok-count.ensures.piece d)));
+          (rw n at (c.in_ok-count.ensures.piece d)));
     }

@@ -21,9 +21,10 @@ returns-in-Ok-clause-seen c held =
     let m = c.self.inside in
     let piece = c.first_piece-piece.result.now in
     let f : FileState = c.in-Ok.ensures.ok.0 in
+    let after : FileState = record f { bytes = f.bytes ++ piece; room = c.in-Ok.ensures.ok.1 } in
     rw (piece_again piece c.args.bytes.now m.piece c.first_piece-piece.ensures, ← c.self.view_is)
-    (ap Some (appended_contents c.args.name.now m.files.items c.append_to.new.files.items f
-    (record f { bytes = f.bytes ++ piece; room = c.in-Ok.ensures.ok.1 }) piece m.out.items m.err.items c.in-Ok.ensures.ok.2 c.in-Ok.ensures.ok.3 refl refl))
+    (ap Some (appended_contents c.args.name.now m.files.items c.append_to.new.files.items
+    (record { was = f; now = after; there = c.in-Ok.ensures.ok.2; puts = c.in-Ok.ensures.ok.3 }) piece m.out.items m.err.items refl refl))
 
 pub returns-in-Err-clause-seen : goal.returns-in-Err-clause-seen
 returns-in-Err-clause-seen c held =

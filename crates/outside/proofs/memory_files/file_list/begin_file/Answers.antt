@@ -18,7 +18,7 @@ returns-in-Some-clause-ok c =
     let at : position (λ (f : FileState). bytes_eq name f.name) fs ≡ Some c.in-Some.place = rw c.as_slice.ensures.value at (sym c.in-Some.ensures.place) in
     let there = put_here name fs c.in-Some.place d d at c.index_mut.ensures.value refl in
     let own = own_name name fs c.in-Some.place d at c.index_mut.ensures.value in
-    (d.room, rw (c.empty.ensures ∙ begun_is name fs d c.args.elsewhere there.0 own) (put name fs c.in-Some.place d after at refl))
+    (d.room, rw (c.empty.ensures ∙ begun_is name fs d c.args.elsewhere there.0 own) (put name fs c.in-Some.place after at refl))
 
 pub add_begun-requires : goal.add_begun-requires
 add_begun-requires c =
