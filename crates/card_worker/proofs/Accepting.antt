@@ -18,7 +18,8 @@ use Rattle.card_core.specs.Plans.{Plan, IsGoodPlan}
 use Rattle.card_core.specs.Posts.{post_at, row_at, IsServable}
 use Rattle.card_core.specs.Cards.{served_in}
 use Rattle.card_core.proofs.Accepting.{first_accepted, next_accepted}
-use Rattle.card_worker.specs.Agreeing.{IsDriven}
+use Rattle.card_worker.specs.declared.hands.Hand.{Hand}
+use Rattle.card_worker.specs.Agreeing.{IsDriven, Agrees}
 
 -- a part of the row may be served of it
 servable : (row : Row) (part : Served) → IsPartOf row part → IsServable row (Some part)
@@ -81,15 +82,17 @@ accepted_next plan s events good legal ports driven same =
     subst (λ n. IsAccepted n plan.card (row_told column) (served_told column) (post_at plan (served_in column.takings) (length column.takings))) ports
     (accepted_from plan column.posts column.takings (length column.takings) good refl same driven may)
 
-pub accepted_at : (plan : Plan) (s : Setup) (i : ℕ) (events : List Event) → IsGoodPlan plan → IsLegal s events → plan.ports ≡ s.ports → plan.card ≡ i
-    → IsDriven plan (column_of s i events) → length (column_of s i events).posts ≡ length (column_of s i events).takings
+-- of a hand that agrees with the column of its card
+pub accepted_at : (hand : Hand) (s : Setup) (i : ℕ) (events : List Event) → IsGoodPlan hand.card.sends.plan → IsLegal s events
+    → Agrees hand s i (column_of s i events) → length (column_of s i events).posts ≡ length (column_of s i events).takings
     → IsAccepted s.ports i (row_told (column_of s i events)) (served_told (column_of s i events))
-    (post_at plan (served_in (column_of s i events).takings) (length (column_of s i events).takings))
-accepted_at plan s i events good legal ports card =
+    (post_at hand.card.sends.plan (served_in (column_of s i events).takings) (length (column_of s i events).takings))
+accepted_at hand s i events good legal agrees =
+    let plan = hand.card.sends.plan in
     subst (λ k. IsDriven plan (column_of s k events) → length (column_of s k events).posts ≡ length (column_of s k events).takings
     → IsAccepted s.ports k (row_told (column_of s k events)) (served_told (column_of s k events))
-    (post_at plan (served_in (column_of s k events).takings) (length (column_of s k events).takings))) card
-    (accepted_next plan s events good legal ports)
+    (post_at plan (served_in (column_of s k events).takings) (length (column_of s k events).takings))) agrees.card
+    (accepted_next plan s events good legal agrees.ports) agrees.driven
 
 -- what the slot of the posted row serves may be served of it
 pub servable_taking : (column : Column) (taken : Taken) → IsServable (row_told (with_taking column taken)) (served_told (with_taking column taken))

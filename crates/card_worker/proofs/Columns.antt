@@ -86,7 +86,7 @@ module _ (s : Setup) (i : ℕ) (events : List Event) (setup : IsSetup s) (legal 
           let plan = hand.card.sends.plan in
           let next = next_post plan column in
           let by_law : IsAccepted n i (row_told column) (served_told column) next =
-          accepted_at plan s i events (good_plan hand.kept hand.card column is.step) legal is.ports is.card is.driven posts_same in
+          accepted_at hand s i events (good_plan hand.kept hand.card column is.step) legal is posts_same in
           let by_row : IsAccepted n i (row_before (posted events) i (takes_of i events)) (served_told column) next =
           subst (λ (row : Row). IsAccepted n i row (served_told column) next) (sym told.row) by_law in
           let by_part : IsAccepted n i (row_before (posted events) i (takes_of i events)) (served_before s (posted events) i (takes_of i events)) next =

@@ -1,5 +1,5 @@
 -- Members, and what a try makes of them.
-use Rattle.std.proofs.Common.{◌≡◌, ◌∙◌, ℕ, ◌+◌, ◌<◌, ◌≤◌, ◌||◌, ◌&&◌, Bool, true, false, length, nat_lt, refl, sym, ap, subst, arith, inl, inr}
+use Rattle.std.proofs.Common.{◌≡◌, ◌∙◌, ◌+◌, ◌<◌, ◌≤◌, ◌||◌, ◌&&◌, Bool, true, false, length, nat_lt, refl, sym, ap, subst, arith, inl, inr}
 use Rattle.std.specs.Prelude.{Option, None, not}
 use Rattle.std.proofs.lemmas.Bool.{both_ways, ltb-true, le-ltb, cases_lt}
 use Rattle.std.proofs.lemmas.List.{length_push}
@@ -31,13 +31,6 @@ due_cases : (less done room : Bool) → (less || (not done && room)) ≡ true �
 due_cases true done room due free = absurd (both_ways true free refl)
 due_cases false true room due free = absurd (both_ways true (sym due) refl)
 due_cases false false room due free = (refl, due)
-
--- whether a seat is due follows from this
-abbrev due_from : ℕ → ℕ → Bool → ℕ → Bool
-due_from slot posts done room = nat_lt slot posts || (not done && nat_lt slot room)
-
-due_same : (a b d a' b' d' : ℕ) (c c' : Bool) → a ≡ a' → b ≡ b' → c ≡ c' → d ≡ d' → due_from a b c d ≡ due_from a' b' c' d'
-due_same a b d a' b' d' c c' slot posts done room = cc
 
 module _ (board : TurnValue Event) (old : Member) (sound : IsSound board old) where
   abbrev seat : SeatValue Event
@@ -84,7 +77,7 @@ module _ (board : TurnValue Event) (old : Member) (sound : IsSound board old) wh
           let good = good_plan old.hand.kept old.hand.card column agrees.step in
           let next = next_post plan column in
           let by_law : IsAccepted n seat.number (row_told column) (served_told column) next =
-          accepted_at plan (setup_at seat) seat.number (events_seen seat) good sound.told.legal agrees.ports agrees.card agrees.driven posts_same in
+          accepted_at old.hand (setup_at seat) seat.number (events_seen seat) good sound.told.legal agrees posts_same in
           let by_row : IsAccepted n seat.number (last_row seat) (served_told column) next =
           subst (λ (row : Row). IsAccepted n seat.number row (served_told column) next) (sym told.row) by_law in
           let by_part : IsAccepted n seat.number (last_row seat) (last_served seat) next =
@@ -154,8 +147,11 @@ module _ (board : TurnValue Event) (old : Member) (sound : IsSound board old) wh
           number = same.1;
           acts = ap (λ (c : Column). length c.posts + length c.takings) after.column ∙ omega arith;
           tries = omega (arith, after.tries, ap (λ (c : Column). length c.posts + length c.takings) after.column);
-          due = λ no. due_same (slot_of next) (length (column_at next).posts) (setup_at next).max_slots (slot_of old.seat) (length column.posts)
-              (setup_at old.seat).max_slots (is_done next) (is_done old.seat) after.slot (ap (λ (c : Column). length c.posts) after.column) after.done room;
+          due = λ no.
+              let slot = after.slot in
+              let posts = ap (λ (c : Column). length c.posts) after.column in
+              let done = after.done in
+              cc;
         }
 
     -- the post was taken by the board

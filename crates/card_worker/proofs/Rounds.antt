@@ -145,13 +145,13 @@ pub events_few : (s : Setup) (events : List Event) → IsSetup s → IsLegal s e
 events_few s events setup legal = length-in_step s events setup.ports_some (AreInStep-legal s events legal)
 
 -- after a round with no event
-pub round_over : (hands : List Hand) (old mid new : StateValue) (acts : ℕ) → AfterRound hands old mid (length hands) acts → acts ≡ 0 → new ≡ mid
-    → (MayDecide mid.setup mid.events → ⊥) → IsLegal new.setup new.events → (i : ℕ) → i < new.setup.ports → IsOver new.setup i new.events
-round_over hands old mid new acts round none is undecided legal =
-    let first = round.still none in
+pub round_over : (hands : List Hand) (old mid new : StateValue) → AfterRound hands old mid (length hands) 0
+    → (new ≡ mid) × (MayDecide mid.setup mid.events → ⊥) → IsLegal new.setup new.events → (i : ℕ) → i < new.setup.ports → IsOver new.setup i new.events
+round_over hands old mid new round none legal =
+    let first = round.still refl in
     let still : (j : ℕ) → j < mid.setup.ports → IsStill mid.setup j mid.events =
     λ j within. subst (λ s. IsStill s j mid.events) (sym round.setup)
     (subst (λ events. IsStill old.setup j events) (sym first.0) (first.1 j (let count = round.hands_are.count in omega arith))) in
     let over : (i : ℕ) → i < mid.setup.ports
-    → IsOver mid.setup i mid.events = all_over mid.setup mid.events (subst (λ (b : StateValue). IsLegal b.setup b.events) is legal) still undecided in
-    subst (λ (b : StateValue). (i : ℕ) → i < b.setup.ports → IsOver b.setup i b.events) (sym is) over
+    → IsOver mid.setup i mid.events = all_over mid.setup mid.events (subst (λ (b : StateValue). IsLegal b.setup b.events) none.0 legal) still none.1 in
+    subst (λ (b : StateValue). (i : ℕ) → i < b.setup.ports → IsOver b.setup i b.events) (sym none.0) over

@@ -23,18 +23,17 @@ abbrev pub next_post : Plan → Column → Post
 next_post plan column = post_at plan (served_in column.takings) (length column.takings)
 
 -- the card makes its next post
-pub IsAhead-post : (old new : CardState) (post : Post) (column : Column) → IsLevel old column → length column.posts ≡ length column.takings
-    → old.sends.posted ≡ false → new.sends.plan ≡ old.sends.plan
+pub IsAhead-post : (old new : CardState) (post : Post) (column : Column) → IsLevel old column → old.sends.posted ≡ false → new.sends.plan ≡ old.sends.plan
     → ((takings : List Taken) → IsAfter old takings false → post ≡ post_at old.sends.plan (served_in takings) (length takings))
     → ((takings : List Taken) → IsAfter old takings false → IsAfter new takings true) → IsAhead post new column
-IsAhead-post old new post column level posts free plan is after =
+IsAhead-post old new post column level free plan is after =
     let plan_old = old.sends.plan in
     let before : IsAfter old level.given false = subst (IsAfter old level.given) free level.after in
     record {
       given = level.given;
       are_given = subst (λ p. AreGiven p column.takings level.given) (sym plan) level.are_given;
       after = after level.given before;
-      posts = posts;
+      posts = level.posts ∙ ap (λ b. slots_posted b (length column.takings)) free;
       is =
           is level.given before
           ∙ ap (λ parts. post_at plan_old parts (length level.given)) (served-given plan_old column.takings level.given level.are_given)

@@ -1,7 +1,6 @@
-use Rattle.std.proofs.Common.{◌≡◌, ◌∙◌, ◌+◌, true, ap, sym, arith}
+use Rattle.std.proofs.Common.{◌≡◌, ◌∙◌, true, sym, arith}
 use Rattle.card_worker.specs.DrivingSteps.{is_patient}
-use Rattle.card_worker.specs.TryingSteps.{one_if}
-use Rattle.card_worker.proofs.Passes.{AfterTurn-tries, patience_left}
+use Rattle.card_worker.proofs.Passes.{AfterTurn-refused, patience_left}
 use Rattle.card_worker.proofs.driver.take_turn.Goals as goal
 
 pub overflow_add-refused : goal.overflow_add-refused
@@ -16,7 +15,5 @@ returns-then-not-acted g c =
     let old = c.args.member.now in
     let before = c.args.refused.now in
     let on : is_patient c.args.patience old before ≡ true = sym c.goes_on.ensures ∙ c.if-not-goes_on.false in
-    let none = ap one_if c.if-not-acted.true in
-    let counts : before + 1 + one_if c.try_member-acted.result ≡ before + 1 = omega arith in
-    AfterTurn-tries c.args.board.now c.args.patience old before c.try_member-acted.new.member (before + 1) c.try_member-acted.result on
-    c.try_member-acted.ensures counts
+    AfterTurn-refused c.args.board.now c.args.patience old before c.try_member-acted.new.member c.try_member-acted.result on
+    c.try_member-acted.ensures c.if-not-acted.true
