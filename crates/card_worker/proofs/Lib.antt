@@ -4,7 +4,7 @@ mod Steps
 mod Members
 pub mod Passes
 mod Columns
-mod Rounds
+mod Turns
 mod ClosedColumns
 pub mod Removing
 pub mod Grouping

@@ -1,4 +1,4 @@
--- What single acts and rounds make of the hands and their board.
+-- What single acts, and the turns of all cards, make of the hands and their board.
 use Rattle.std.specs.Prelude.{◌≡◌, ◌⊎◌, ◌<◌, ◌≤◌, ◌+◌, ℕ, Bool, true, false, List, [], ◌∷◌, ◌++◌, map, length}
 use Rattle.slot_histories.specs.declared.events.Event.{Event}
 use Rattle.slot_histories.specs.Events.{Setup, posts_of, takes_of, decides, posted}
@@ -34,7 +34,7 @@ pub record AfterAct (i : ℕ) (old new : StateValue) (acted : Bool) : Type 0 whe
   pub still : acted ≡ false → (new.events ≡ old.events) × IsStill old.setup i old.events
 
 -- the first k cards had their turns, in which `made` events came
-pub record AfterRound (hands : List Hand) (old new : StateValue) (k made : ℕ) : Type 0 where
+pub record AfterTurns (hands : List Hand) (old new : StateValue) (k made : ℕ) : Type 0 where
   pub hands_are : AreHandsOf hands new
   pub setup : new.setup ≡ old.setup
   pub refused : new.refused ≡ old.refused

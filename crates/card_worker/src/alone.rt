@@ -5,7 +5,7 @@ ghost use Rattle.slot_histories.specs.Slots.{is_done_before};
 ghost use Rattle.slot_histories.specs.Legal.{MayTake, MayDecide, IsLegal};
 ghost use Rattle.card_worker.specs.TryingSteps.{one_if};
 ghost use Rattle.card_worker.specs.Alone.{IsHandOf, AreHandsOf, GoesOn, IsOver};
-ghost use Rattle.card_worker.specs.AloneSteps.{plans_of, AfterAct, AfterRound};
+ghost use Rattle.card_worker.specs.AloneSteps.{plans_of, AfterAct, AfterTurns};
 
 use crate::hands::{Hand, Hands};
 use crate::tries::{forget, give, next_post};
@@ -41,12 +41,12 @@ fn finish(hands: &mut [Hand], state: &mut BoardState) -> u64
     ensures over { (i : ℕ) → i < state.new.setup.ports → IsOver state.new.setup i state.new.events }
 {
     let before = state.events();
-    while round(hands, state) {}
+    while turns_and_decision(hands, state) {}
     state.events() - before
 }
 
-// A round: each card's turn, and the decision of the slot where it may come. Whether an event came.
-fn round(hands: &mut [Hand], state: &mut BoardState) -> bool
+// Each card's turn, and the decision of the slot where it may come. Whether an event came.
+fn turns_and_decision(hands: &mut [Hand], state: &mut BoardState) -> bool
     requires { AreHandsOf hands.old state.old }
     ensures hands { AreHandsOf hands.new state.new }
     ensures plans { plans_of hands.new ≡ plans_of hands.old }
@@ -68,7 +68,7 @@ fn round(hands: &mut [Hand], state: &mut BoardState) -> bool
 fn turns(hands: &mut [Hand], state: &mut BoardState) -> u64
     requires { AreHandsOf hands.old state.old }
     ensures plans { plans_of hands.new ≡ plans_of hands.old }
-    ensures round { AfterRound hands.new state.old state.new (length hands.new) result }
+    ensures turns { AfterTurns hands.new state.old state.new (length hands.new) result }
 {
     state.legal();
     let mut acts: u64 = 0;

@@ -1,4 +1,4 @@
--- Rounds of the cards' turns at a board's state.
+-- The turns of all cards at the state of a board, one after the other.
 use Rattle.std.proofs.Common.{◌≡◌, ◌∙◌, ℕ, ◌+◌, ◌*◌, ◌<◌, ◌≤◌, Bool, true, false, List, [], ◌++◌, length, set, get_or, refl, sym, ap, subst, arith, inl, inr}
 use Rattle.std.specs.Prelude.{slice_get}
 use Rattle.std.proofs.lemmas.Bool.{cases_eq, cases_lt, both_ways}
@@ -21,7 +21,7 @@ use Rattle.card_worker.specs.declared.hands.Hand.{Hand}
 use Rattle.card_worker.specs.Agreeing.{Agrees}
 use Rattle.card_worker.specs.TryingSteps.{one_if}
 use Rattle.card_worker.specs.Alone.{IsHandOf, AreHandsOf, GoesOn, IsOver}
-use Rattle.card_worker.specs.AloneSteps.{with_event, plans_of, IsStill, AfterAct, AfterRound}
+use Rattle.card_worker.specs.AloneSteps.{with_event, plans_of, IsStill, AfterAct, AfterTurns}
 use Rattle.card_worker.proofs.Columns.{column-decide}
 
 one_none : (acted : Bool) → one_if acted ≡ 0 → acted ≡ false
@@ -45,8 +45,8 @@ pub GoesOn-more : (old mid new : List Event) → GoesOn old mid → GoesOn mid n
 GoesOn-more old mid new first next =
     (first.0 ++ next.0, next.1 ∙ ap (λ events. events ++ next.0) first.1 ∙ append_assoc old first.0 next.0)
 
-pub AfterRound-none : (hands : List Hand) (board : StateValue) → AreHandsOf hands board → AfterRound hands board board 0 0
-AfterRound-none hands board are =
+pub AfterTurns-none : (hands : List Hand) (board : StateValue) → AreHandsOf hands board → AfterTurns hands board board 0 0
+AfterTurns-none hands board are =
     record {
       hands_are = are;
       setup = refl;
@@ -61,10 +61,10 @@ moved : (hand : Hand) (j : ℕ) (mid new : StateValue) → new.setup ≡ mid.set
     → IsHandOf hand mid.setup j mid.events → IsHandOf hand new.setup j new.events
 moved hand j mid new setup column is = subst (λ s. Agrees hand s j (column_of s j new.events)) (sym setup) (subst (Agrees hand mid.setup j) (sym column) is)
 
-module _ (hands : List Hand) (old mid new : StateValue) (k made : ℕ) (before : AfterRound hands old mid k made) (next : Hand) (acted : Bool)
+module _ (hands : List Hand) (old mid new : StateValue) (k made : ℕ) (before : AfterTurns hands old mid k made) (next : Hand) (acted : Bool)
     (inside : k < length hands) (own : IsHandOf next new.setup k new.events) (act : AfterAct k mid new acted) where
-  pub AfterRound-more : AfterRound (set hands k next) old new (k + 1) (made + one_if acted)
-  AfterRound-more =
+  pub AfterTurns-more : AfterTurns (set hands k next) old new (k + 1) (made + one_if acted)
+  AfterTurns-more =
       record {
         hands_are = record {
           count = length-set hands k next ∙ before.hands_are.count ∙ ap (λ s. s.ports) (sym act.setup);
@@ -144,14 +144,14 @@ module _ (s : Setup) (events : List Event) (legal : IsLegal s events) (still : (
 pub events_few : (s : Setup) (events : List Event) → IsSetup s → IsLegal s events → length events ≤ (2 * s.ports + 1) * s.max_slots
 events_few s events setup legal = length-in_step s events setup.ports_some (AreInStep-legal s events legal)
 
--- after a round with no event
-pub round_over : (hands : List Hand) (old mid new : StateValue) → AfterRound hands old mid (length hands) 0
+-- after the turns of all cards with no event
+pub turns_over : (hands : List Hand) (old mid new : StateValue) → AfterTurns hands old mid (length hands) 0
     → (new ≡ mid) × (MayDecide mid.setup mid.events → ⊥) → IsLegal new.setup new.events → (i : ℕ) → i < new.setup.ports → IsOver new.setup i new.events
-round_over hands old mid new round none legal =
-    let first = round.still refl in
+turns_over hands old mid new taken none legal =
+    let first = taken.still refl in
     let still : (j : ℕ) → j < mid.setup.ports → IsStill mid.setup j mid.events =
-    λ j within. subst (λ s. IsStill s j mid.events) (sym round.setup)
-    (subst (λ events. IsStill old.setup j events) (sym first.0) (first.1 j (let count = round.hands_are.count in omega arith))) in
+    λ j within. subst (λ s. IsStill s j mid.events) (sym taken.setup)
+    (subst (λ events. IsStill old.setup j events) (sym first.0) (first.1 j (let count = taken.hands_are.count in omega arith))) in
     let over : (i : ℕ) → i < mid.setup.ports
     → IsOver mid.setup i mid.events = all_over mid.setup mid.events (subst (λ (b : StateValue). IsLegal b.setup b.events) none.0 legal) still none.1 in
     subst (λ (b : StateValue). (i : ℕ) → i < b.setup.ports → IsOver b.setup i b.events) (sym none.0) over
