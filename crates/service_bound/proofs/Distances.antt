@@ -32,31 +32,25 @@ one_beyond n x x_in =
       | inr long ↦ inr (omega arith, mod_once n (x + 1) long (omega arith) ∙ omega arith)
     ]
 
-passed_by : (n from x y next a b c : ℕ) → from < n → x < n → y < n → IsDistance n from x a → IsDistance n from y b → IsDistance n next y c → a < b
-    → ((x + 1 < n) × (next ≡ x + 1)) ⊎ ((x + 1 ≡ n) × (next ≡ 0)) → c + a + 1 ≡ b
-passed_by n from x y next a b c f x_in y_in da db dc less step = grind (arith, da.above, da.below, db.above, db.below, dc.above, dc.below)
-
 -- a pointer that moves one beyond port x comes nearer to a port y farther than x, by all the steps that it moves
 pub distance-passed : (n from x y : ℕ) → from < n → x < n → y < n → distance n from x < distance n from y
     → distance n ((x + 1) % n) y + distance n from x + 1 ≡ distance n from y
 distance-passed n from x y f x_in y_in less =
     let step = one_beyond n x x_in in
-    let next_in : (x + 1) % n < n = elim step [ inl s ↦ omega (arith, s.0, s.1) | inr s ↦ omega (arith, s.0, s.1) ] in
-    passed_by n from x y ((x + 1) % n) (distance n from x) (distance n from y) (distance n ((x + 1) % n) y) f x_in y_in
-    (IsDistance-distance n from x f x_in) (IsDistance-distance n from y f y_in) (IsDistance-distance n ((x + 1) % n) y next_in y_in) less step
-
-after_by : (n from x y next a b c : ℕ) → from < n → x < n → y < n → IsDistance n from x a → IsDistance n from y b → IsDistance n next y c → b ≤ a
-    → ((x + 1 < n) × (next ≡ x + 1)) ⊎ ((x + 1 ≡ n) × (next ≡ 0)) → c + a + 1 ≡ b + n
-after_by n from x y next a b c f x_in y_in da db dc less step = grind (arith, da.above, da.below, db.above, db.below, dc.above, dc.below)
+    let to_x = IsDistance-distance n from x f x_in in
+    let to_y = IsDistance-distance n from y f y_in in
+    let later = IsDistance-distance n ((x + 1) % n) y (mod_below (x + 1) n (omega arith)) y_in in
+    grind (arith, step, less, to_x.above, to_x.below, to_y.above, to_y.below, later.above, later.below)
 
 -- and a port that is no farther than x then comes after it, at the end of the circle
 pub distance-after : (n from x y : ℕ) → from < n → x < n → y < n → distance n from y ≤ distance n from x
     → distance n ((x + 1) % n) y + distance n from x + 1 ≡ distance n from y + n
 distance-after n from x y f x_in y_in less =
     let step = one_beyond n x x_in in
-    let next_in : (x + 1) % n < n = elim step [ inl s ↦ omega (arith, s.0, s.1) | inr s ↦ omega (arith, s.0, s.1) ] in
-    after_by n from x y ((x + 1) % n) (distance n from x) (distance n from y) (distance n ((x + 1) % n) y) f x_in y_in
-    (IsDistance-distance n from x f x_in) (IsDistance-distance n from y f y_in) (IsDistance-distance n ((x + 1) % n) y next_in y_in) less step
+    let to_x = IsDistance-distance n from x f x_in in
+    let to_y = IsDistance-distance n from y f y_in in
+    let later = IsDistance-distance n ((x + 1) % n) y (mod_below (x + 1) n (omega arith)) y_in in
+    grind (arith, step, less, to_x.above, to_x.below, to_y.above, to_y.below, later.above, later.below)
 
 -- one beyond a port x, any other port is nearer than n - 1 steps
 pub distance-beyond : (n x y : ℕ) → x < n → y < n → (x ≡ y → ⊥) → distance n ((x + 1) % n) y + 2 ≤ n
@@ -72,15 +66,14 @@ distance-beyond n x y x_in y_in other =
 pub distance-own : (n from : ℕ) → from < n → distance n from from ≡ 0
 distance-own n from f = let here = distance-above n from from f f (omega arith) in omega (arith, here)
 
-reached_by : (n from x y a b c : ℕ) → from < n → x < n → y < n → IsDistance n from x a → IsDistance n from y b → IsDistance n x y c → a ≤ b → c + a ≡ b
-reached_by n from x y a b c f x_in y_in da db dc less = grind (arith, da.above, da.below, db.above, db.below, dc.above, dc.below)
-
 -- a pointer that moves to a port x comes nearer to a port y no nearer than x, by all the steps that it moves
 pub distance-reached : (n from x y : ℕ) → from < n → x < n → y < n → distance n from x ≤ distance n from y
     → distance n x y + distance n from x ≡ distance n from y
 distance-reached n from x y f x_in y_in less =
-    reached_by n from x y (distance n from x) (distance n from y) (distance n x y) f x_in y_in (IsDistance-distance n from x f x_in)
-    (IsDistance-distance n from y f y_in) (IsDistance-distance n x y x_in y_in) less
+    let to_x = IsDistance-distance n from x f x_in in
+    let to_y = IsDistance-distance n from y f y_in in
+    let later = IsDistance-distance n x y x_in y_in in
+    grind (arith, less, to_x.above, to_x.below, to_y.above, to_y.below, later.above, later.below)
 
 -- the port after port x is one step farther than x, or at the pointer where x is the farthest
 pub distance-next : (n from x : ℕ) → from < n → x < n → (distance n from ((x + 1) % n) ≡ distance n from x + 1)

@@ -14,7 +14,7 @@ use Rattle.eslip_rounds.specs.Slots.{AreMoved}
 use Rattle.eslip_rounds.proofs.Deciding.{some_below}
 use Rattle.service_bound.proofs.Sums.{sum_below, sum_below-le, sum_below-less, sum_below-most}
 use Rattle.service_bound.proofs.Distances.{distance-passed, distance-after, distance-beyond}
-use Rattle.service_bound.proofs.Rank.{fresh_at, fresh_at-le, lower_or_stale}
+use Rattle.service_bound.proofs.Rank.{fresh_at, fresh_at-le}
 
 -- whether input x is fresh for the request of input i for output j: 1 or 0
 abbrev pub fresh_for : ℕ → ℕ → Places → ℕ → ℕ → ℕ → ℕ
@@ -103,6 +103,7 @@ module _ (n t level : ℕ) (rows : List Row) (first matched : List (Option Fed))
         let others = sum_below-less (fresh_for n level after i j) (fresh_for n level before i j) n h h_in (no_fresher-refused nobody) in
         let own : fresh_for n level after i j h ≡ fresh_at n (distance n (grant_of before j level) i) (distance n (grant_of before j level) h)
         (distance n (accept_of after h level) j) = rw stays refl in
-        lower_or_stale n (distance n (grant_of before j level) i) (distance n (grant_of before j level) h) (distance n (accept_of before h level) j)
-        (distance n (accept_of after h level) j) (fresh_of n level before i j) (fresh_of n level after i j) turns_in closer ahead
-        (subst (λ v. fresh_of n level after i j + fresh_for n level before i j h ≤ fresh_of n level before i j + v) own others)
+        let less : fresh_of n level after i j + fresh_for n level before i j h ≤ fresh_of n level before i j +
+        fresh_at n (distance n (grant_of before j level) i) (distance n (grant_of before j level) h) (distance n (accept_of after h level) j) =
+        subst (λ v. fresh_of n level after i j + fresh_for n level before i j h ≤ fresh_of n level before i j + v) own others in
+        omega arith

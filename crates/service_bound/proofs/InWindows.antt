@@ -2,6 +2,7 @@
 use Rattle.std.proofs.Common.{◌≡◌, ℕ, ◌+◌, ◌<◌, List, [], ◌∷◌, Option, length, arith}
 use Rattle.std.proofs.lemmas.List.Elements.{All-head, All-tail}
 use Rattle.rotating_pick.specs.declared.kinds.Kind.TheVariants.{Uni}
+use Rattle.rotating_pick.specs.declared.limits.TheConstants.{LEVELS}
 use Rattle.slot_match.specs.declared.rows.Row.{Row}
 use Rattle.slot_match.specs.declared.matching.Fed.{Fed}
 use Rattle.slot_match.specs.Rows.{Names, row_of, AreWithin}
@@ -10,7 +11,7 @@ use Rattle.pointer_state.specs.Places.{Places, ArePointing}
 use Rattle.eslip_rounds.specs.Slots.{Moving, AreMoved, IsSlotBy}
 use Rattle.eslip_rounds.specs.Schedules.{DecidedSlot}
 use Rattle.service_bound.specs.Windows.{IsClean, InFirst, IsKeptScheduleBy, IsWindowBy, IsWindow}
-use Rattle.service_bound.proofs.LaterRounds.{first_of, length-first_of}
+use Rattle.service_bound.proofs.LaterRounds.{first_of, length-first_of, BeginsWith-slot, Turn}
 use Rattle.service_bound.proofs.PointersAfter.{ArePointing-after}
 
 pub InFirst-along : (P Q : List Row → Type 0) → ((rows : List Row) → P rows → Q rows) → (slots : List DecidedSlot) → InFirst P slots → InFirst Q slots
@@ -94,6 +95,23 @@ module _ (Moves : Moving) where
             kept = window.kept.1;
             clean = All-tail (λ s. IsClean n level s.rows) slot slots window.clean;
           }
+
+-- every slot of one round or more has its turn, where pointers move as those of iSLIP do
+abbrev pub turn_of : (n rounds t level : ℕ) (places : Places) (slot : DecidedSlot) → 0 < rounds → level < LEVELS
+    → IsKeptSlotBy AreMoved n rounds t level places slot → Turn n level
+turn_of n rounds t level places slot some level_in now =
+    record {
+      t = t;
+      rows = slot.rows;
+      first = first_of n now.decided.steps;
+      matched = slot.decision.matched;
+      before = places;
+      after = slot.decision.places;
+      level_in = level_in;
+      begins = BeginsWith-slot n t slot.rows places AreMoved rounds slot.decision some now.decided;
+      moved = now.decided.moved;
+      pointing = now.pointing;
+    }
 
 -- a window is a schedule of rows that are kept
 pub IsKept-window : (Moves : Moving) (n rounds t level : ℕ) (places : Places) (slots : List DecidedSlot) → IsWindowBy Moves n rounds t level places slots

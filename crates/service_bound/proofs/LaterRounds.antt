@@ -2,14 +2,15 @@
 use Rattle.std.proofs.Common.{◌≡◌, ℕ, ◌<◌, List, [], ◌∷◌, Option, length, slice_index_or, sym, subst, inl, inr, arith}
 use Rattle.rotating_pick.specs.declared.kinds.Kind.{Kind}
 use Rattle.rotating_pick.specs.declared.kinds.Kind.TheVariants.{Uni}
+use Rattle.rotating_pick.specs.declared.limits.TheConstants.{LEVELS}
 use Rattle.slot_match.specs.declared.rows.Row.{Row}
 use Rattle.slot_match.specs.declared.matching.Fed.{Fed}
 use Rattle.slot_match.specs.Matches.{unmatched, Serves}
 use Rattle.slot_match.proofs.Kept.{IsMatch-unmatched}
-use Rattle.pointer_state.specs.Places.{Places, accept_of}
+use Rattle.pointer_state.specs.Places.{Places, ArePointing, accept_of}
 use Rattle.islip_rounds.specs.Numbers.{last_of}
 use Rattle.eslip_rounds.specs.Rounds.{Grants, IsRound, AreRounds}
-use Rattle.eslip_rounds.specs.Slots.{Decision, Moving, IsSlotBy}
+use Rattle.eslip_rounds.specs.Slots.{Decision, Moving, AreMoved, IsSlotBy}
 use Rattle.eslip_rounds.proofs.Bests.{taken_from}
 use Rattle.eslip_rounds.proofs.Running.{AreRounds-keep}
 
@@ -74,3 +75,17 @@ module _ (n t : ℕ) (rows : List Row) (places : Places) where
   BeginsWith-slot Moves rounds decision some slot =
       let count = slot.count in
       subst (BeginsWith n t rows places (first_of n slot.steps)) (sym slot.result) (begins slot.steps (omega arith) slot.chain)
+
+-- A slot of a switch of n ports, as a level has it: its rows, the matches after its first round and after all, and the
+-- pointers before it, which are at ports, and after it.
+pub record Turn (n level : ℕ) : Type 0 where
+  pub t : ℕ
+  pub rows : List Row
+  pub first : List (Option Fed)
+  pub matched : List (Option Fed)
+  pub before : Places
+  pub after : Places
+  pub level_in : level < LEVELS
+  pub begins : BeginsWith n t rows before first matched
+  pub moved : AreMoved n t rows first matched before after
+  pub pointing : ArePointing n level before

@@ -12,10 +12,11 @@ use Rattle.service_bound.specs.Windows.{IsKeptScheduleBy, IsWindow, IsWithoutMul
 use Rattle.service_bound.specs.Waits.{noted_of, longest_wait, longest_service, longest_service_in_one_round, longest_service_by, longest_service_at_line_rate}
 use Rattle.service_bound.proofs.Granting.{IsQuietFor-clean}
 use Rattle.service_bound.proofs.InWindows.{IsKept-window}
-use Rattle.service_bound.proofs.ServedInTime.{quiet_served_in_time}
-use Rattle.service_bound.proofs.OneRoundServed.{one_quiet_served_in_time}
+use Rattle.service_bound.proofs.Falling.{IsUnicastWindow, any_follow, line_rate_in}
+use Rattle.service_bound.proofs.ServedInTime.{longest_service-bound}
+use Rattle.service_bound.proofs.OneRoundServed.{one_bound}
 use Rattle.service_bound.proofs.WaitsByRounds.{longest_wait-below_service}
-use Rattle.service_bound.proofs.OneRoundServedAtLineRate.{one_served_at_line_rate, one_longest_wait-at_line_rate}
+use Rattle.service_bound.proofs.OneRoundServedAtLineRate.{one_bound-at_line_rate, one_longest_wait-at_line_rate}
 use Rattle.service_bound.proofs.ServedAtLineRate.{served_at_line_rate, longest_wait-at_line_rate}
 use Rattle.service_bound.proofs.TwoPorts.{two_served_in_time, two_longest_wait-bound}
 
@@ -56,9 +57,11 @@ pub quiet_served_by_rounds : (n rounds t level i j : ℕ) (places : Places) (slo
 quiet_served_by_rounds n rounds t level i j places slots some inside schedule quiet first long =
     elim (eqb_tells rounds 1) [
       | inl one ↦
-          one_quiet_served_in_time n t level i j places slots inside
-          (subst (λ r. IsKeptScheduleBy AreMoved n r t level places slots) one.1 schedule) quiet first (rw one.0 at long)
-      | inr more ↦ quiet_served_in_time n rounds t level i j places slots some inside schedule quiet first (rw more.0 at long)
+          (one_bound n level i j inside).served t places slots
+          (record { schedule = subst (λ r. IsKeptScheduleBy AreMoved n r t level places slots) one.1 schedule; held = quiet; follow = any_follow slots })
+          first (rw one.0 at long)
+      | inr more ↦ (longest_service-bound n rounds level i j some inside).served t places slots
+          (record { schedule = schedule; held = quiet; follow = any_follow slots }) first (rw more.0 at long)
     ]
 
 -- so they are in a window without multicast
@@ -79,7 +82,9 @@ served_from_three n rounds t level i j places slots more some inside window alon
     elim (eqb_tells rounds 1) [
       | inl one ↦
           let enough : longest_service_in_one_round n - 1 ≤ length slots = rw one.0 at long in
-          one_served_at_line_rate n t level i j places slots more inside (subst (λ r. IsWindow n r t level places slots) one.1 window) alone gains first
+          let is : IsUnicastWindow AreMoved n 1 t level places slots =
+          record { window = subst (λ r. IsWindow n r t level places slots) one.1 window; alone = alone } in
+          (one_bound-at_line_rate n level i j more inside).served t places slots (line_rate_in AreMoved n 1 t level places slots is gains) first
           (omega (arith, enough))
       | inr several ↦
           let enough : longest_service n - 1 ≤ length slots = rw several.0 at long in
@@ -106,7 +111,9 @@ below_from_three : (n rounds t level : ℕ) (places : Places) (slots : List Deci
 below_from_three n rounds t level places slots more some window alone gains =
     elim (eqb_tells rounds 1) [
       | inl one ↦
-          let below = one_longest_wait-at_line_rate n t level places slots more (subst (λ r. IsWindow n r t level places slots) one.1 window) alone gains in
+          let is : IsUnicastWindow AreMoved n 1 t level places slots =
+          record { window = subst (λ r. IsWindow n r t level places slots) one.1 window; alone = alone } in
+          let below = one_longest_wait-at_line_rate n t level places slots more is gains in
           rw one.0 (omega (arith, below))
       | inr several ↦
           let below = longest_wait-at_line_rate n rounds t level places slots more some window alone gains in
@@ -119,7 +126,8 @@ pub longest_wait-below_at_line_rate : (n rounds t level : ℕ) (places : Places)
 longest_wait-below_at_line_rate n rounds t level places slots ports some window alone gains =
     by_ports_and_rounds (λ n rounds count. 0 < n → 0 < rounds → IsWindow n rounds t level places slots
     → All (λ slot. IsWithoutMulticast n level slot.rows) slots → AreAtLineRate n level slots → longest_wait n level (map noted_of slots) < count) n rounds
-    (λ ports some window alone gains. longest_wait-below_service n rounds t level places slots ports some window alone)
+    (λ ports some window alone gains. longest_wait-below_service n rounds t level places slots ports some
+    (record { window = window; alone = alone }))
     (λ several same ports some window alone gains. two_longest_wait-bound rounds t level places slots (omega (arith, some, several)) window alone)
     (λ more ports some window alone gains. below_from_three n rounds t level places slots more some window alone gains)
     ports some window alone gains

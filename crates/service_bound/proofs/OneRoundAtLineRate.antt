@@ -1,271 +1,258 @@
 -- In a slot of one round at line rate: where a request's rank is less by one than in general, it falls by two or is so again.
-use Rattle.std.proofs.Common.{◌≡◌, ℕ, ◌+◌, ◌-◌, ◌%◌, ◌<◌, ◌≤◌, ◌⊎◌, min, List, Option, ap, sym, subst, inl, inr, arith}
+use Rattle.std.proofs.Common.{◌≡◌, ℕ, ◌+◌, ◌-◌, ◌%◌, ◌<◌, ◌≤◌, ◌⊎◌, ◌∙◌, min, List, ap, sym, subst, inl, inr, arith}
 use Rattle.std.proofs.lemmas.Bool.{cases_eq}
-use Rattle.std.proofs.lemmas.Nat.{mod_below}
 use Rattle.rotating_pick.specs.Rotation.{distance}
 use Rattle.rotating_pick.specs.declared.kinds.Kind.TheVariants.{Uni}
-use Rattle.rotating_pick.specs.declared.limits.TheConstants.{LEVELS}
 use Rattle.rotating_pick.proofs.Circle.{distance-lt}
 use Rattle.rotating_pick.proofs.Picking.{distance-injective}
 use Rattle.slot_match.specs.declared.rows.Row.{Row}
-use Rattle.slot_match.specs.declared.matching.Fed.{Fed}
 use Rattle.slot_match.specs.Rows.{Names, row_of}
 use Rattle.slot_match.specs.Matches.{Serves}
-use Rattle.pointer_state.specs.Places.{Places, ArePointing, grant_of, accept_of}
-use Rattle.eslip_rounds.specs.Slots.{AreMoved}
+use Rattle.pointer_state.specs.Places.{grant_of, accept_of}
 use Rattle.eslip_rounds.proofs.Testing.{Decides-named}
 use Rattle.eslip_rounds.specs.Decisions.{is_named}
-use Rattle.service_bound.specs.Windows.{IsClean, IsWithoutMulticast, GainAtMostOne, IsQuietFor}
+use Rattle.service_bound.specs.Windows.{IsClean, IsWithoutMulticast, GainAtMostOne}
 use Rattle.service_bound.proofs.Sums.{sum_below-le, sum_below-less, sum_below-two}
 use Rattle.service_bound.proofs.Distances.{distance-passed}
-use Rattle.service_bound.proofs.Fresh.{fresh_of, fresh-accepted}
-use Rattle.service_bound.proofs.OneRoundRank.{silent_at, silent_at-le, silent_at-before, silent_at-after, one_rank, one_rank-far_twice}
+use Rattle.service_bound.proofs.Fresh.{fresh-accepted}
+use Rattle.service_bound.proofs.OneRoundRank.{silent_at-before, silent_at-after, OneDistances, one_low_of, one_rank, one_rank-far_twice}
 use Rattle.service_bound.proofs.OneRoundRank.{one_rank-silent_twice, one_rank-two_silent, one_rank-turns_twice}
 use Rattle.service_bound.proofs.FirstRound.{grants_first, first_granted}
-use Rattle.service_bound.proofs.LaterRounds.{BeginsWith}
-use Rattle.service_bound.proofs.Granting.{IsQuietFor-clean, kind_is_first, served_by_first, refused}
-use Rattle.service_bound.proofs.InWindows.{AskOn}
+use Rattle.service_bound.proofs.LaterRounds.{Turn}
+use Rattle.service_bound.proofs.Granting.{kind_is_first, served_by_first, refused}
 use Rattle.service_bound.proofs.LineRateClasses.{IsFarAmongFresh, IsAlone, IsBeside, IsLower, IsOpening, other_asks, apart_from_next}
 use Rattle.service_bound.proofs.LineRateClasses.{FallsByTwo, two_steps, alone_refused}
-use Rattle.service_bound.proofs.OneRound.{silent_accepted, silent_for, silent_of, one_rank_of, IsNearest, tests_on, one_falls}
+use Rattle.service_bound.proofs.OneRound.{OneLeft, ahead_of, no_farther, no_more_silent, one_distances_of, one_falls, silent_accepted, silent_for, stays}
 
-module _ (n t level : ℕ) (rows : List Row) (matched : List (Option Fed)) (before after : Places) (level_in : level < LEVELS)
-    (begins : BeginsWith n t rows before matched matched) (moved : AreMoved n t rows matched matched before after) (pointing : ArePointing n level before)
-    (clean : IsClean n level rows) (alone : IsWithoutMulticast n level rows) (more : 2 < n) where
-  module _ (later : List Row) (i j g h : ℕ) (i_in : i < n) (j_in : j < n) (named : Names (row_of rows i) level Uni j)
-      (left : Serves matched i j level Uni → ⊥) (on : AskOn n level matched rows later j) (gains : GainAtMostOne n level rows later)
-      (nearest : IsNearest n level before rows j g) (next : IsNearest n level after later j h) where
-    abbrev IsTwoLess : Type 0
-    IsTwoLess = one_rank_of n level after later i j h + 2 ≤ one_rank_of n level before rows i j g
+-- Rows of a window without multicast at the level, for three ports or more, and those that are posted next, at line rate.
+pub record ComeAtLineRate (n level : ℕ) (rows later : List Row) : Type 0 where
+  pub more : 2 < n
+  pub clean : IsClean n level rows
+  pub alone : IsWithoutMulticast n level rows
+  pub gains : GainAtMostOne n level rows later
 
-    quiet : IsQuietFor n level j rows
-    quiet = IsQuietFor-clean n level j rows clean alone
+module _ (n level : ℕ) (turn : Turn n level) (later : List Row) (i j : ℕ) (asked : OneLeft n level turn later i j)
+    (rate : ComeAtLineRate n level turn.rows later) where
+  -- how far an input is from the output's grant pointer before the slot, and the output from the input's accept pointer
+  abbrev far : ℕ → ℕ
+  far = distance n (grant_of turn.before j level)
 
-    abbrev FallsAtLineRate : Type 0
-    FallsAtLineRate = IsTwoLess ⊎ ((one_rank_of n level after later i j h + 1 ≤ one_rank_of n level before rows i j g) × IsLower n level i j after later)
+  abbrev turns_of : ℕ → ℕ
+  turns_of x = distance n (accept_of turn.before x level) j
 
-    opened : IsOpening n t level rows matched matched before after
-    opened = record { level_in = level_in; begins = begins; moved = moved; pointing = pointing; clean = clean; alone = alone; more = more }
+  -- what the rank is made of before the slot, and after it
+  abbrev old : OneDistances
+  old = one_distances_of n level turn.before turn.rows i j asked.now
 
-    abbrev Two : ℕ → Type 0
-    Two v = FallsByTwo n t level rows matched matched before after opened v i j
+  abbrev new : OneDistances
+  new = one_distances_of n level turn.after later i j asked.next
 
-    falls_once : one_rank_of n level after later i j h + 1 ≤ one_rank_of n level before rows i j g
-    falls_once = one_falls n t level rows matched before after level_in begins moved pointing later i j g h i_in j_in quiet named left on nearest next
+  abbrev IsTwoLess : Type 0
+  IsTwoLess = one_rank n new + 2 ≤ one_rank n old
 
-    -- the nearest input takes another output y
-    module _ (base : IsFarAmongFresh n level i j before) (y : ℕ) (nobody : (x : ℕ) → Serves matched x j level Uni → ⊥) (served : Serves matched g y level Uni)
-        (at_most : distance n (accept_of before g level) y ≤ distance n (accept_of before g level) j) (asked : Names (row_of rows g) level Uni y) where
-      no_more_silent : (x : ℕ) → x < n → silent_for n level after later i j x ≤ silent_for n level before rows i j x
-      no_more_silent x x_in =
-          let stays = moved.grant_stays j level nobody in
-          let less = silent_at-le (distance n (grant_of before j level) i) (distance n (grant_of before j level) x) (distance n (grant_of before j level) i)
-          (distance n (grant_of before j level) x) (is_named (row_of rows x) level Uni j) (is_named (row_of later x) level Uni j)
-          (λ near. (
-            near,
-            tests_on n t level rows matched before after level_in begins moved pointing later i j g h i_in j_in quiet named left on
-                nearest next x x_in (nobody x),
-          )) in
-          subst (λ p. silent_at (distance n p i) (distance n p x) (is_named (row_of later x) level Uni j) ≤ silent_for n level before rows i j x)
-          (sym stays) less
+  abbrev FallsAtLineRate : Type 0
+  FallsAtLineRate = IsTwoLess ⊎ ((one_rank n new + 1 ≤ one_rank n old) × IsLower n level i j turn.after later)
 
-      -- an input that begins to ask is silent no more
-      begun : (x : ℕ) → x < n → (x ≡ i → ⊥) → (Names (row_of rows x) level Uni j → ⊥) → Names (row_of later x) level Uni j
-          → silent_for n level before rows i j x ≡ silent_for n level after later i j x + 1
-      begun x x_in other none asks =
-          let from_in = pointing.grant j j_in in
-          let place_in = distance-lt n (grant_of before j level) x from_in in
-          let far = base.far in
-          let differ : distance n (grant_of before j level) x ≡ distance n (grant_of before j level) i
-          → ⊥ = λ e. other (distance-injective n (grant_of before j level) x i from_in x_in i_in e) in
-          let was = silent_at-before (distance n (grant_of before j level) i) (distance n (grant_of before j level) x) (is_named (row_of rows x) level Uni j)
-          (omega (arith, far, place_in, differ)) (λ asked. none ((Decides-named (row_of rows x) level Uni j).0 asked)) in
-          let gone = silent_at-after (distance n (grant_of after j level) i) (distance n (grant_of after j level) x) (is_named (row_of later x) level Uni j)
-          ((Decides-named (row_of later x) level Uni j).1 asks) in
-          omega (arith, was, gone)
+  opened : IsOpening n turn.t level turn.rows turn.first turn.matched turn.before turn.after
+  opened = record {
+    level_in = turn.level_in;
+    begins = turn.begins;
+    moved = turn.moved;
+    pointing = turn.pointing;
+    clean = rate.clean;
+    alone = rate.alone;
+    more = rate.more;
+  }
 
-      one_begun : (x : ℕ) → x < n → (x ≡ i → ⊥) → (Names (row_of rows x) level Uni j → ⊥) → Names (row_of later x) level Uni j
-          → silent_of n level after later i j + 1 ≤ silent_of n level before rows i j
-      one_begun x x_in other none asks =
-          let sums = sum_below-less (silent_for n level after later i j) (silent_for n level before rows i j) n x x_in no_more_silent in
-          let own = begun x x_in other none asks in
-          omega (arith, sums, own)
+  abbrev Two : ℕ → Type 0
+  Two v = FallsByTwo n turn.t level turn.rows turn.first turn.matched turn.before turn.after opened v i j
 
-      -- the rank falls by two where an input begins to ask,
-      two_by_begun : (x : ℕ) → x < n → (x ≡ i → ⊥) → (Names (row_of rows x) level Uni j → ⊥) → Names (row_of later x) level Uni j
-          → fresh_of n level after i j + 2 ≤ min (distance n (accept_of before g level) j) (n - 2) + fresh_of n level before i j → IsTwoLess
-      two_by_begun x x_in other none asks fewer =
-          let stays = moved.grant_stays j level nobody in
-          let lower = one_rank-silent_twice n (distance n (grant_of before j level) i) (silent_of n level before rows i j)
-          (distance n (accept_of before g level) j) (fresh_of n level before i j) (silent_of n level after later i j)
-          (distance n (accept_of after h level) j) (fresh_of n level after i j) (one_begun x x_in other none asks) fewer in
-          subst (λ p. one_rank n (distance n p i) (silent_of n level after later i j) (distance n (accept_of after h level) j)
-          (fresh_of n level after i j) + 2 ≤ one_rank_of n level before rows i j g) (sym stays) lower
+  falls_once : one_rank n new + 1 ≤ one_rank n old
+  falls_once = one_falls n level turn later i j asked
 
-      -- where two do,
-      two_by_two : (x z : ℕ) → x < n → z < n → (x ≡ z → ⊥) → (x ≡ i → ⊥) → (z ≡ i → ⊥) → (Names (row_of rows x) level Uni j → ⊥)
-          → (Names (row_of rows z) level Uni j → ⊥) → Names (row_of later x) level Uni j → Names (row_of later z) level Uni j
-          → 1 ≤ min (distance n (accept_of before g level) j) (n - 2) → fresh_of n level after i j ≤ fresh_of n level before i j → IsTwoLess
-      two_by_two x z x_in z_in apart x_other z_other x_none z_none x_asks z_asks some also =
-          let stays = moved.grant_stays j level nobody in
-          let sums = sum_below-two (silent_for n level after later i j) (silent_for n level before rows i j) n x z x_in z_in apart no_more_silent in
-          let own = begun x x_in x_other x_none x_asks in
-          let second = begun z z_in z_other z_none z_asks in
-          let lower = one_rank-two_silent n (distance n (grant_of before j level) i) (silent_of n level before rows i j)
-          (distance n (accept_of before g level) j) (fresh_of n level before i j) (silent_of n level after later i j)
-          (distance n (accept_of after h level) j) (fresh_of n level after i j) (omega (arith, sums, own, second)) some also in
-          subst (λ p. one_rank n (distance n p i) (silent_of n level after later i j) (distance n (accept_of after h level) j)
-          (fresh_of n level after i j) + 2 ≤ one_rank_of n level before rows i j g) (sym stays) lower
+  from_in : grant_of turn.before j level < n
+  from_in = turn.pointing.grant j asked.output
 
-      -- and where the nearest has made two steps, whether it is the nearest again or another is
-      two_by_steps : Two g → ((h ≡ g → ⊥) → (h ≡ i → ⊥) × (Names (row_of rows h) level Uni j → ⊥)) → IsTwoLess
-      two_by_steps two new = elim (cases_eq g h) [
-        | inr other ↦ let begins_now = new (λ e. other (sym e)) in two_by_begun h next.below begins_now.0 begins_now.1 next.member two.fewer
-        | inl same ↦
-            let stays = moved.grant_stays j level nobody in
-            let lower = one_rank-turns_twice n (distance n (grant_of before j level) i) (silent_of n level before rows i j)
-            (distance n (accept_of before g level) j) (fresh_of n level before i j) (silent_of n level after later i j)
-            (distance n (accept_of after g level) j) (fresh_of n level after i j)
-            (sum_below-le (silent_for n level after later i j) (silent_for n level before rows i j) n no_more_silent) two.nearer in
-            let along : one_rank n (distance n (grant_of before j level) i) (silent_of n level after later i j) (distance n (accept_of after h level) j)
-            (fresh_of n level after i j) + 2 ≤ one_rank_of n level before rows i j g =
-            subst (λ v. one_rank n (distance n (grant_of before j level) i) (silent_of n level after later i j) (distance n (accept_of after v level) j)
-            (fresh_of n level after i j) + 2 ≤ one_rank_of n level before rows i j g) same lower in
-            subst (λ p. one_rank n (distance n p i) (silent_of n level after later i j) (distance n (accept_of after h level) j)
-            (fresh_of n level after i j) + 2 ≤ one_rank_of n level before rows i j g) (sym stays) along
-      ]
+  apart : (x : ℕ) → x < n → (x ≡ i → ⊥) → far x ≡ far i → ⊥
+  apart x x_in other e = other (distance-injective n (grant_of turn.before j level) x i from_in x_in asked.input e)
 
-      -- class A
-      from_alone : IsAlone n level i j before rows → FallsAtLineRate
-      from_alone now =
-          let own : g ≡ i = now.only g nearest.below nearest.member in
-          let next_in : (j + 1) % n < n = mod_below (j + 1) n (omega arith) in
-          let silent_before : (x : ℕ) → x < n → (x ≡ i → ⊥) → Names (row_of rows x) level Uni j → ⊥ = λ x x_in other asks. other (now.only x x_in asks) in
-          let own_served : Serves matched i y level Uni = subst (λ v. Serves matched v y level Uni) own served in
-          let own_most : distance n (accept_of before i level) y ≤ distance n (accept_of before i level) j =
-          subst (λ v. distance n (accept_of before v level) y ≤ distance n (accept_of before v level) j) own at_most in
-          let turns : distance n (accept_of before g level) j ≡ distance n (accept_of before i level) j =
-          ap (λ v. distance n (accept_of before v level) j) own in
-          elim (alone_refused n t level rows matched matched before after opened i j i_in j_in base nobody y
-          own_served own_most now.passed) [
-            | inl two ↦ inl (two_by_steps (subst Two (sym own) two)
-                (λ new. let other : h ≡ i → ⊥ = λ e. new (subst (λ v. h ≡ v) (sym own) e) in (other, silent_before h next.below other)))
-            | inr rest ↦ elim (other_asks n level later j i i) [
-              | inr only ↦ inr (
-                falls_once,
-                inl (record {
-                  base = rest.base;
-                  only = λ x x_in asks. elim (only x x_in asks) [ inl same ↦ same | inr same ↦ same ];
-                  passed = inr rest.passed;
-                }),
-              )
-              | inl found ↦
-                  let x_none = silent_before found.0 found.1 found.2.0 in
-                  elim rest.next [
-                    | inl fewer ↦ inl (two_by_begun found.0 found.1 found.2.0 x_none found.3 (omega (arith, fewer, turns)))
-                    | inr stale ↦ elim (other_asks n level later j i found.0) [
-                      | inl second ↦ inl (two_by_two found.0 second.0 found.1 second.1 (λ e. second.2.1 (sym e)) found.2.0 second.2.0 x_none
-                          (silent_before second.0 second.1 second.2.0) found.3 second.3 (let some = stale.0 in omega (arith, some, turns)) stale.1)
-                      | inr only ↦
-                          let not_asked : Names (row_of rows found.0) level Uni ((j + 1) % n) → ⊥ = λ asked. found.2.0 (stale.2 found.0 found.1 asked) in
-                          inr (
-                            falls_once,
-                            inr (
-                              found.0,
-                              record {
-                                base = rest.base;
-                                below = found.1;
-                                other = found.2.0;
-                                asks = found.3;
-                                only = only;
-                                not_next = λ also. apart_from_next n j more j_in (gains found.0 found.1 j ((j + 1) % n) found.3 also x_none not_asked);
-                              },
-                            ),
-                          )
-                    ]
-                  ]
-            ]
-          ]
+  -- an input that begins to ask for the output
+  record Begins (x : ℕ) : Type 0 where
+    below : x < n
+    other : x ≡ i → ⊥
+    silent : Names (row_of turn.rows x) level Uni j → ⊥
+    asks : Names (row_of later x) level Uni j
 
-      -- class B
-      from_beside : (x : ℕ) → IsBeside n level i j before rows x → g ≡ x → IsTwoLess
-      from_beside x now own =
-          let from_in = pointing.grant j j_in in
-          let stays = moved.grant_stays j level nobody in
-          let other : g ≡ i → ⊥ = λ e. now.other (subst (λ v. v ≡ i) own e) in
-          let full : distance n (accept_of before g level) j + 1 ≡ n = base.fresh g nearest.below other in
-          let not_next : y ≡ (j + 1) % n
-          → ⊥ = λ same. now.not_next
-          (subst (λ v. Names (row_of rows v) level Uni ((j + 1) % n)) own (subst (Names (row_of rows g) level Uni) same asked)) in
-          let far = base.far in
-          let not_own : h ≡ i → ⊥ = λ e.
-          let least : distance n (grant_of before j level) h ≤ distance n (grant_of before j level) g =
-          subst (λ p. distance n p h ≤ distance n p g) stays (next.least g nearest.below (on g nearest.below nearest.member (nobody g))) in
-          let place_in = distance-lt n (grant_of before j level) g from_in in
-          let of_h : distance n (grant_of before j level) h ≡ distance n (grant_of before j level) i = ap (distance n (grant_of before j level)) e in
-          let differ : distance n (grant_of before j level) g ≡ distance n (grant_of before j level) i
-          → ⊥ = λ d. other (distance-injective n (grant_of before j level) g i from_in nearest.below i_in d) in
-          differ (omega (arith, far, least, place_in, of_h)) in
-          two_by_steps (two_steps n t level rows matched matched before after opened i j i_in j_in base
-          nobody g y nearest.below served at_most full not_next)
-          (λ new. (not_own, λ asks. elim (now.only h next.below asks) [ inl e ↦ not_own e | inr e ↦ new (subst (λ v. h ≡ v) (sym own) e) ]))
+  -- the nearest input takes another output y
+  module _ (base : IsFarAmongFresh n level i j turn.before) (y : ℕ) (nobody : (x : ℕ) → Serves turn.first x j level Uni → ⊥)
+      (served : Serves turn.first asked.now y level Uni)
+      (at_most : distance n (accept_of turn.before asked.now level) y ≤ turns_of asked.now) (asks : Names (row_of turn.rows asked.now) level Uni y) where
+    stay : new.far ≤ old.far
+    stay = omega (arith, stays n level turn later i j asked nobody i)
 
-    -- the nearest input of class B takes the output itself
-    from_accepted : (x : ℕ) → IsBeside n level i j before rows x → g ≡ x → Serves matched g j level Uni → IsTwoLess
-    from_accepted x now own served =
-        let g_in = nearest.below in
-        let from_in = pointing.grant j j_in in
-        let at_most = nearest.least i i_in named in
-        let other : g ≡ i → ⊥ = λ same. left (subst (λ z. Serves matched z j level Uni) same served) in
-        let full = now.base.fresh g g_in other in
-        let apart : distance n (grant_of before j level) g ≡ distance n (grant_of before j level) i
-        → ⊥ = λ e. other (distance-injective n (grant_of before j level) g i from_in g_in i_in e) in
-        let ahead : distance n (grant_of before j level) g < distance n (grant_of before j level) i = omega arith in
-        let passed = distance-passed n (grant_of before j level) g i from_in g_in i_in ahead in
-        let place = moved.granted g j level served in
-        let no_fresher = fresh-accepted n t level rows matched matched begins.opening.count before after moved pointing i j i_in j_in g g_in served ahead in
-        let no_more = silent_accepted n t level rows matched before after level_in begins moved pointing later i j g h i_in j_in quiet named left on
-        nearest next served in
-        let lower = one_rank-far_twice n (distance n (grant_of before j level) i) (silent_of n level before rows i j)
-        (distance n (accept_of before g level) j) (fresh_of n level before i j)
-        (distance n ((g + 1) % n) i) (silent_of n level after later i j) (distance n (accept_of after h level) j) (fresh_of n level after i j)
-        (omega (arith, passed)) no_more no_fresher more (omega (arith, full)) in
-        subst (λ p. one_rank n (distance n p i) (silent_of n level after later i j) (distance n (accept_of after h level) j)
-        (fresh_of n level after i j) + 2 ≤ one_rank_of n level before rows i j g) (sym place) lower
+    silent_on : (x : ℕ) → x < n → silent_for n level turn.after later i j x ≤ silent_for n level turn.before turn.rows i j x
+    silent_on = no_more_silent n level turn later i j asked nobody
 
-    -- in class B the other input is the nearest
-    beside_nearest : (x : ℕ) → IsBeside n level i j before rows x → g ≡ x
-    beside_nearest x now = elim (now.only g nearest.below nearest.member) [
-      | inr same ↦ same
-      | inl own ↦
-          let from_in = pointing.grant j j_in in
-          let least = nearest.least x now.below now.asks in
-          let place_in = distance-lt n (grant_of before j level) x from_in in
-          let far = now.base.far in
-          let e : distance n (grant_of before j level) g ≡ distance n (grant_of before j level) i = ap (distance n (grant_of before j level)) own in
-          absurd (now.other (distance-injective n (grant_of before j level) x i from_in now.below i_in (omega (arith, least, place_in, far, e))))
+    -- an input that begins to ask is silent no more
+    begun : (x : ℕ) → Begins x → silent_for n level turn.before turn.rows i j x ≡ silent_for n level turn.after later i j x + 1
+    begun x begins =
+        let place_in = distance-lt n (grant_of turn.before j level) x from_in in
+        let last = base.far in
+        let differ = apart x begins.below begins.other in
+        let was = silent_at-before (far i) (far x) (is_named (row_of turn.rows x) level Uni j) (omega (arith, last, place_in, differ))
+        (λ named. begins.silent ((Decides-named (row_of turn.rows x) level Uni j).0 named)) in
+        let gone = silent_at-after (distance n (grant_of turn.after j level) i) (distance n (grant_of turn.after j level) x)
+        (is_named (row_of later x) level Uni j) ((Decides-named (row_of later x) level Uni j).1 begins.asks) in
+        omega (arith, was, gone)
+
+    -- the rank falls by two where an input begins to ask,
+    two_by_begun : (x : ℕ) → Begins x → new.fresh + 2 ≤ one_low_of n old → IsTwoLess
+    two_by_begun x begins fewer =
+        let sums = sum_below-less (silent_for n level turn.after later i j) (silent_for n level turn.before turn.rows i j) n x begins.below silent_on in
+        let own = begun x begins in
+        one_rank-silent_twice n new old stay (omega (arith, sums, own)) fewer
+
+    -- where two do,
+    two_by_two : (x z : ℕ) → (x ≡ z → ⊥) → Begins x → Begins z → 1 ≤ min (turns_of asked.now) (n - 2) → new.fresh ≤ old.fresh → IsTwoLess
+    two_by_two x z differ begins also some fresh =
+        let sums = sum_below-two (silent_for n level turn.after later i j) (silent_for n level turn.before turn.rows i j) n x z begins.below also.below
+        differ silent_on in
+        let own = begun x begins in
+        let second = begun z also in
+        one_rank-two_silent n new old stay (omega (arith, sums, own, second)) some fresh
+
+    -- and where the nearest has made two steps, whether it is the nearest again or another is
+    two_by_steps : Two asked.now → ((asked.next ≡ asked.now → ⊥) → Begins asked.next) → IsTwoLess
+    two_by_steps two new_asks = elim (cases_eq asked.now asked.next) [
+      | inr other ↦ two_by_begun asked.next (new_asks (λ e. other (sym e))) two.fewer
+      | inl same ↦
+          let turns = ap (λ x. distance n (accept_of turn.after x level) j) same in
+          let nearer = two.nearer in
+          one_rank-turns_twice n new old stay
+          (sum_below-le (silent_for n level turn.after later i j) (silent_for n level turn.before turn.rows i j) n silent_on)
+          (omega (arith, nearer, turns))
     ]
 
-    -- from either class the rank falls by two or more, or by one into one of them
-    pub falls_at_line_rate : IsLower n level i j before rows → FallsAtLineRate
-    falls_at_line_rate lower =
-        let first_kind = kind_is_first n t level rows matched before level_in begins.opening pointing clean alone in
-        let granted = grants_first n t rows before level level_in clean Uni first_kind g j j_in nearest in
-        let met = served_by_first n t level rows matched before level_in begins.opening pointing clean alone g j nearest.below granted in
-        let at_most = met.1.least j j_in granted in
-        let asked = (first_granted n t rows before level level_in clean Uni first_kind g met.0 met.1.member).member in
-        elim (cases_eq met.0 j) [
-          | inl same ↦
-              let served = subst (λ y. Serves matched g y level Uni) same met.2 in
-              elim lower [
-                | inl now ↦ absurd (left (subst (λ z. Serves matched z j level Uni) (now.only g nearest.below nearest.member) served))
-                | inr late ↦ inl (from_accepted late.0 late.1 (beside_nearest late.0 late.1) served)
-              ]
-          | inr other ↦
-              let nobody = refused n t level rows matched before level_in begins.opening pointing clean alone g j met.0 nearest.below j_in granted met.1
-              other in
-              elim lower [
-                | inl now ↦ from_alone now.base met.0 nobody met.2 at_most asked now
-                | inr late ↦ inl (from_beside late.1.base met.0 nobody met.2 at_most asked late.0 late.1 (beside_nearest late.0 late.1))
-              ]
+    -- class A
+    from_alone : IsAlone n level i j turn.before turn.rows → FallsAtLineRate
+    from_alone now =
+        let own : asked.now ≡ i = now.only asked.now asked.nearest.below asked.nearest.member in
+        let begins : (x : ℕ) → x < n → (x ≡ i → ⊥) → Names (row_of later x) level Uni j → Begins x = λ x x_in other names.
+        record { below = x_in; other = other; silent = λ named. other (now.only x x_in named); asks = names } in
+        let own_served : Serves turn.first i y level Uni = subst (λ v. Serves turn.first v y level Uni) own served in
+        let own_most : distance n (accept_of turn.before i level) y ≤ turns_of i =
+        subst (λ v. distance n (accept_of turn.before v level) y ≤ turns_of v) own at_most in
+        let turns : turns_of asked.now ≡ turns_of i = ap turns_of own in
+        elim (alone_refused n turn.t level turn.rows turn.first turn.matched turn.before turn.after opened i j asked.input asked.output base nobody y
+        own_served own_most now.passed) [
+          | inl two ↦ inl (two_by_steps (subst Two (sym own) two)
+              (λ differs. begins asked.next asked.nearest_next.below (λ e. differs (e ∙ sym own)) asked.nearest_next.member))
+          | inr rest ↦ elim (other_asks n level later j i i) [
+            | inr only ↦ inr (
+              falls_once,
+              inl (record {
+                base = rest.base;
+                only = λ x x_in names. elim (only x x_in names) [ inl same ↦ same | inr same ↦ same ];
+                passed = inr rest.passed;
+              }),
+            )
+            | inl found ↦
+                let first = begins found.0 found.1 found.2.0 found.3 in
+                elim rest.next [
+                  | inl fewer ↦ inl (two_by_begun found.0 first (omega (arith, fewer, turns)))
+                  | inr stale ↦ elim (other_asks n level later j i found.0) [
+                    | inl second ↦ inl (two_by_two found.0 second.0 (λ e. second.2.1 (sym e)) first (begins second.0 second.1 second.2.0 second.3)
+                        (let some = stale.0 in omega (arith, some, turns)) stale.1)
+                    | inr only ↦
+                        let not_asked : Names (row_of turn.rows found.0) level Uni ((j + 1) % n) → ⊥ = λ named. found.2.0 (stale.2 found.0 found.1 named) in
+                        inr (
+                          falls_once,
+                          inr (
+                            found.0,
+                            record {
+                              base = rest.base;
+                              below = found.1;
+                              other = found.2.0;
+                              asks = found.3;
+                              only = only;
+                              not_next = λ also. apart_from_next n j rate.more asked.output
+                                  (rate.gains found.0 found.1 j ((j + 1) % n) found.3 also first.silent not_asked);
+                            },
+                          ),
+                        )
+                  ]
+                ]
+          ]
         ]
+
+    -- class B
+    from_beside : (x : ℕ) → IsBeside n level i j turn.before turn.rows x → asked.now ≡ x → IsTwoLess
+    from_beside x now own =
+        let other : asked.now ≡ i → ⊥ = λ e. now.other (sym own ∙ e) in
+        let full = base.fresh asked.now asked.nearest.below other in
+        let not_next : y ≡ (j + 1) % n → ⊥ = λ same. now.not_next
+        (subst (λ v. Names (row_of turn.rows v) level Uni ((j + 1) % n)) own (subst (Names (row_of turn.rows asked.now) level Uni) same asks)) in
+        let not_own : asked.next ≡ i → ⊥ = λ e.
+        let last = base.far in
+        let least = no_farther n level turn later i j asked nobody in
+        let place_in = distance-lt n (grant_of turn.before j level) asked.now from_in in
+        apart asked.now asked.nearest.below other (omega (arith, last, least, place_in, ap far e)) in
+        two_by_steps (two_steps n turn.t level turn.rows turn.first turn.matched turn.before turn.after opened i j asked.input asked.output base
+        nobody asked.now y asked.nearest.below served at_most full not_next)
+        (λ differs. record {
+          below = asked.nearest_next.below;
+          other = not_own;
+          silent = λ names. elim (now.only asked.next asked.nearest_next.below names) [ inl e ↦ not_own e | inr e ↦ differs (e ∙ sym own) ];
+          asks = asked.nearest_next.member;
+        })
+
+  -- the nearest input of class B takes the output itself
+  from_accepted : (x : ℕ) → IsBeside n level i j turn.before turn.rows x → asked.now ≡ x → Serves turn.first asked.now j level Uni → IsTwoLess
+  from_accepted x now own served =
+      let full = now.base.fresh asked.now asked.nearest.below (λ e. now.other (sym own ∙ e)) in
+      let ahead = ahead_of n level turn later i j asked served in
+      let passed = distance-passed n (grant_of turn.before j level) asked.now i from_in asked.nearest.below asked.input ahead in
+      let place = turn.moved.granted asked.now j level served in
+      let closer : distance n (grant_of turn.after j level) i < far i = rw place (omega (arith, passed)) in
+      let no_fresher = fresh-accepted n turn.t level turn.rows turn.first turn.matched turn.begins.opening.count turn.before turn.after turn.moved
+      turn.pointing i j asked.input asked.output asked.now asked.nearest.below served ahead in
+      one_rank-far_twice n new old closer (silent_accepted n level turn later i j asked served) no_fresher rate.more (omega (arith, full))
+
+  -- in class B the other input is the nearest
+  beside_nearest : (x : ℕ) → IsBeside n level i j turn.before turn.rows x → asked.now ≡ x
+  beside_nearest x now = elim (now.only asked.now asked.nearest.below asked.nearest.member) [
+    | inr same ↦ same
+    | inl own ↦
+        let least = asked.nearest.least x now.below now.asks in
+        let place_in = distance-lt n (grant_of turn.before j level) x from_in in
+        let last = now.base.far in
+        absurd (apart x now.below now.other (omega (arith, least, place_in, last, ap far own)))
+  ]
+
+  -- from either class the rank falls by two or more, or by one into one of them
+  pub falls_at_line_rate : IsLower n level i j turn.before turn.rows → FallsAtLineRate
+  falls_at_line_rate lower =
+      let opening = turn.begins.opening in
+      let first_kind = kind_is_first n turn.t level turn.rows turn.first turn.before turn.level_in opening turn.pointing rate.clean rate.alone in
+      let granted = grants_first n turn.t turn.rows turn.before level turn.level_in rate.clean Uni first_kind asked.now j asked.output asked.nearest in
+      let met = served_by_first n turn.t level turn.rows turn.first turn.before turn.level_in opening turn.pointing rate.clean rate.alone asked.now j
+      asked.nearest.below granted in
+      let at_most = met.1.least j asked.output granted in
+      let asks = (first_granted n turn.t turn.rows turn.before level turn.level_in rate.clean Uni first_kind asked.now met.0 met.1.member).member in
+      elim (cases_eq met.0 j) [
+        | inl same ↦
+            let served = subst (λ y. Serves turn.first asked.now y level Uni) same met.2 in
+            elim lower [
+              | inl now ↦
+                  let own = now.only asked.now asked.nearest.below asked.nearest.member in
+                  absurd (asked.left (subst (λ x. Serves turn.matched x j level Uni) own (turn.begins.stays asked.now j level Uni served)))
+              | inr late ↦ inl (from_accepted late.0 late.1 (beside_nearest late.0 late.1) served)
+            ]
+        | inr other ↦
+            let nobody = refused n turn.t level turn.rows turn.first turn.before turn.level_in opening turn.pointing rate.clean rate.alone asked.now j met.0
+            asked.nearest.below asked.output granted met.1 other in
+            elim lower [
+              | inl now ↦ from_alone now.base met.0 nobody met.2 at_most asks now
+              | inr late ↦ inl (from_beside late.1.base met.0 nobody met.2 at_most asks late.0 late.1 (beside_nearest late.0 late.1))
+            ]
+      ]

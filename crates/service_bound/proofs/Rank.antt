@@ -27,78 +27,94 @@ fresh_at-le n far place turns far_later place_later turns_later turns_in on =
           elim known.1 [ inl moved ↦ omega arith | inr same ↦ omega arith ]
     ]
 
--- Twice the rank of a request of n ports, so that nothing is divided. `far` is how far its input is from
--- the output's grant pointer, `near` how far an input is that asks for the output too and is no farther,
--- `turns` how far the output is from that input's accept pointer, and `fresh` counts the fresh inputs.
-abbrev pub twice_rank : ℕ → ℕ → ℕ → ℕ → ℕ → ℕ
-twice_rank n far near turns fresh = (n - 2) * (far * (far + 1) + 2 * near) + 2 * (far + min turns (n - 2) + fresh)
+-- What the rank of a request is made of: `far` is how far its input is from the output's grant pointer, `near` how far
+-- an input is that asks for the output too and is no farther, `turns` how far the output is from that input's accept
+-- pointer, and `fresh` counts the fresh inputs.
+pub record Distances : Type 0 where
+  pub far : ℕ
+  pub near : ℕ
+  pub turns : ℕ
+  pub fresh : ℕ
 
--- what falls before `turns` falls counts more than all that it could rise
-carried : (step low high left left_later : ℕ) → low + 2 ≤ high → left_later + 1 ≤ left + step → step * low + 2 * left_later + 2 ≤ step * high + 2 * left
-carried step low high left left_later less within = let scaled = mul-le-mul_left step less in omega (arith, scaled)
+-- of n ports, what can rise again before the others fall
+abbrev pub low_of : ℕ → Distances → ℕ
+low_of n d = min d.turns (n - 2) + d.fresh
+
+-- and what falls first
+abbrev pub high_of : Distances → ℕ
+high_of d = d.far * (d.far + 1) + 2 * d.near
+
+-- twice the rank of a request of n ports, so that nothing is divided
+abbrev pub twice_rank : ℕ → Distances → ℕ
+twice_rank n d = (n - 2) * high_of d + 2 * (d.far + low_of n d)
+
+no_farther : (x y : ℕ) → x ≤ y → x * (x + 1) ≤ y * (y + 1)
+no_farther x y within = mul-le x (x + 1) y (y + 1) within (omega arith)
+
+nearer : (x y : ℕ) → x < y → (x + 1) * (x + 2) ≤ y * (y + 1)
+nearer x y less = mul-le (x + 1) (x + 2) y (y + 1) (omega arith) (omega arith)
 
 -- the rank falls where the request's own input comes nearer
-pub twice_rank-far : (n far near turns fresh far_later near_later turns_later fresh_later : ℕ) → far_later < far → near_later ≤ far_later
-    → fresh_later ≤ fresh → twice_rank n far_later near_later turns_later fresh_later + 2 ≤ twice_rank n far near turns fresh
-twice_rank-far n far near turns fresh far_later near_later turns_later fresh_later less within no_more =
-    let square : (far_later + 1) * (far_later + 2) ≤ far * (far + 1) = mul-le (far_later + 1) (far_later + 2) far (far + 1) (omega arith) (omega arith) in
-    carried (n - 2) (far_later * (far_later + 1) + 2 * near_later) (far * (far + 1) + 2 * near) (far + min turns (n - 2) + fresh)
-    (far_later + min turns_later (n - 2) + fresh_later) (omega (arith, square)) (omega arith)
+pub twice_rank-far : (n : ℕ) (new old : Distances) → new.far < old.far → new.near ≤ new.far → new.fresh ≤ old.fresh → twice_rank n new + 2 ≤ twice_rank n old
+twice_rank-far n new old less within no_more =
+    let square = nearer new.far old.far less in
+    let scaled : (n - 2) * (high_of new + 2) ≤ (n - 2) * high_of old = mul-le-mul_left (n - 2) (omega arith) in
+    omega arith
 
 -- and where a nearer input asks for the output, which is fresh no more
-pub twice_rank-near : (n far near turns fresh near_later turns_later fresh_later : ℕ) → near_later < near
-    → min turns_later (n - 2) + fresh_later + 1 ≤ (n - 2) + fresh → twice_rank n far near_later turns_later fresh_later + 2 ≤ twice_rank n far near turns fresh
-twice_rank-near n far near turns fresh near_later turns_later fresh_later less lower =
-    carried (n - 2) (far * (far + 1) + 2 * near_later) (far * (far + 1) + 2 * near) (far + min turns (n - 2) + fresh)
-    (far + min turns_later (n - 2) + fresh_later) (omega arith) (omega arith)
+pub twice_rank-near : (n : ℕ) (new old : Distances) → new.far ≤ old.far → new.near < old.near → low_of n new + 1 ≤ (n - 2) + old.fresh
+    → twice_rank n new + 2 ≤ twice_rank n old
+twice_rank-near n new old stays less lower =
+    let square = no_farther new.far old.far stays in
+    let scaled : (n - 2) * (high_of new + 2) ≤ (n - 2) * high_of old = mul-le-mul_left (n - 2) (omega arith) in
+    omega arith
 
 -- and where the accept pointer comes nearer
-pub twice_rank-turns : (n far near turns fresh turns_later fresh_later : ℕ) → min turns_later (n - 2) + fresh_later + 1 ≤ min turns (n - 2) + fresh
-    → twice_rank n far near turns_later fresh_later + 2 ≤ twice_rank n far near turns fresh
-twice_rank-turns n far near turns fresh turns_later fresh_later lower = omega arith
+pub twice_rank-turns : (n : ℕ) (new old : Distances) → new.far ≤ old.far → new.near ≤ old.near → low_of n new + 1 ≤ low_of n old
+    → twice_rank n new + 2 ≤ twice_rank n old
+twice_rank-turns n new old stays also lower =
+    let square = no_farther new.far old.far stays in
+    let scaled : (n - 2) * high_of new ≤ (n - 2) * high_of old = mul-le-mul_left (n - 2) (omega arith) in
+    omega arith
 
 -- The rank falls by two or more, and so twice the rank by four, where the accept pointer comes nearer by so much,
-pub twice_rank-turns_twice : (n far near turns fresh turns_later fresh_later : ℕ) → min turns_later (n - 2) + fresh_later + 2 ≤ min turns (n - 2) + fresh
-    → twice_rank n far near turns_later fresh_later + 4 ≤ twice_rank n far near turns fresh
-twice_rank-turns_twice n far near turns fresh turns_later fresh_later lower = omega arith
+pub twice_rank-turns_twice : (n : ℕ) (new old : Distances) → new.far ≤ old.far → new.near ≤ old.near → low_of n new + 2 ≤ low_of n old
+    → twice_rank n new + 4 ≤ twice_rank n old
+twice_rank-turns_twice n new old stays also lower =
+    let square = no_farther new.far old.far stays in
+    let scaled : (n - 2) * high_of new ≤ (n - 2) * high_of old = mul-le-mul_left (n - 2) (omega arith) in
+    omega arith
 
 -- and where a nearer input asks for the output, and what else falls makes up for its accept pointer,
-pub twice_rank-near_twice : (n far near turns fresh near_later turns_later fresh_later : ℕ) → near_later < near
-    → min turns_later (n - 2) + fresh_later + 2 ≤ (n - 2) + (min turns (n - 2) + fresh)
-    → twice_rank n far near_later turns_later fresh_later + 4 ≤ twice_rank n far near turns fresh
-twice_rank-near_twice n far near turns fresh near_later turns_later fresh_later less lower =
-    let scaled : (n - 2) * (far * (far + 1) + 2 * near_later + 2) ≤ (n - 2) * (far * (far + 1) + 2 * near) = mul-le-mul_left (n - 2) (omega arith) in
-    omega (arith, scaled, lower)
+pub twice_rank-near_twice : (n : ℕ) (new old : Distances) → new.far ≤ old.far → new.near < old.near → low_of n new + 2 ≤ (n - 2) + low_of n old
+    → twice_rank n new + 4 ≤ twice_rank n old
+twice_rank-near_twice n new old stays less lower =
+    let square = no_farther new.far old.far stays in
+    let scaled : (n - 2) * (high_of new + 2) ≤ (n - 2) * high_of old = mul-le-mul_left (n - 2) (omega arith) in
+    omega arith
 
 -- and where an input nearer by two asks for it,
-pub twice_rank-near_by_two : (n far near turns fresh near_later turns_later fresh_later : ℕ) → near_later + 2 ≤ near → 1 ≤ min turns (n - 2)
-    → fresh_later ≤ fresh → twice_rank n far near_later turns_later fresh_later + 4 ≤ twice_rank n far near turns fresh
-twice_rank-near_by_two n far near turns fresh near_later turns_later fresh_later less some also =
-    let scaled : (n - 2) * (far * (far + 1) + 2 * near_later + 4) ≤ (n - 2) * (far * (far + 1) + 2 * near) = mul-le-mul_left (n - 2) (omega arith) in
-    omega (arith, scaled, some, also)
+pub twice_rank-near_by_two : (n : ℕ) (new old : Distances) → new.far ≤ old.far → new.near + 2 ≤ old.near → 1 ≤ min old.turns (n - 2)
+    → new.fresh ≤ old.fresh → twice_rank n new + 4 ≤ twice_rank n old
+twice_rank-near_by_two n new old stays less some also =
+    let square = no_farther new.far old.far stays in
+    let scaled : (n - 2) * (high_of new + 4) ≤ (n - 2) * high_of old = mul-le-mul_left (n - 2) (omega arith) in
+    omega arith
 
 -- and where the request's own input comes nearer, and the other had some way to go
-pub twice_rank-far_twice : (n far near turns fresh far_later near_later turns_later fresh_later : ℕ) → far_later < far → near_later ≤ far_later
-    → fresh_later ≤ fresh → 2 < n → 1 ≤ near + min turns (n - 2)
-    → twice_rank n far_later near_later turns_later fresh_later + 4 ≤ twice_rank n far near turns fresh
-twice_rank-far_twice n far near turns fresh far_later near_later turns_later fresh_later less within no_more more some =
-    let square : (far_later + 1) * (far_later + 2) ≤ far * (far + 1) = mul-le (far_later + 1) (far_later + 2) far (far + 1) (omega arith) (omega arith) in
-    let scaled : (n - 2) * (far_later * (far_later + 1) + 2 * near_later + 2 + 2 * near) ≤ (n - 2) * (far * (far + 1) + 2 * near) =
-    mul-le-mul_left (n - 2) (omega (arith, square)) in
-    let grown : 1 * near ≤ (n - 2) * near = mul-le 1 near (n - 2) near (omega arith) (omega arith) in
-    omega (arith, scaled, grown, some, no_more, less)
-
--- an input whose accept pointer comes nearer was fresh and is no more, or its lesser of `turns` and n - 2 falls
-pub lower_or_stale : (n far place turns turns_later fresh fresh_later : ℕ) → turns < n → turns_later < turns → place ≤ far
-    → fresh_later + fresh_at n far place turns ≤ fresh + fresh_at n far place turns_later
-    → min turns_later (n - 2) + fresh_later + 1 ≤ min turns (n - 2) + fresh
-lower_or_stale n far place turns turns_later fresh fresh_later turns_in closer within others = omega arith
+pub twice_rank-far_twice : (n : ℕ) (new old : Distances) → new.far < old.far → new.near ≤ new.far → new.fresh ≤ old.fresh → 2 < n
+    → 1 ≤ old.near + min old.turns (n - 2) → twice_rank n new + 4 ≤ twice_rank n old
+twice_rank-far_twice n new old less within no_more more some =
+    let square = nearer new.far old.far less in
+    let scaled : (n - 2) * (high_of new + 2 + 2 * old.near) ≤ (n - 2) * high_of old = mul-le-mul_left (n - 2) (omega arith) in
+    let grown : 1 * old.near ≤ (n - 2) * old.near = mul-le 1 old.near (n - 2) old.near (omega arith) (omega arith) in
+    omega arith
 
 -- every rank is below the bound
-twice_rank-most : (step far near low fresh : ℕ) → far < step + 2 → near ≤ far → low ≤ step → fresh ≤ step + 2
-    → step * (far * (far + 1) + 2 * near) + 2 * (far + low + fresh) + 2 ≤ (step + 2) * ((step + 2) * (step + 1) + 2)
-twice_rank-most step far near low fresh far_in within low_in fresh_in =
-    let square : (far + 1) * (far + 2) ≤ (step + 2) * (step + 3) = mul-le (far + 1) (far + 2) (step + 2) (step + 3) (omega arith) (omega arith) in
+twice_rank-most : (step far near low : ℕ) → far < step + 2 → near ≤ far → low ≤ step + (step + 2)
+    → step * (far * (far + 1) + 2 * near) + 2 * (far + low) + 2 ≤ (step + 2) * ((step + 2) * (step + 1) + 2)
+twice_rank-most step far near low far_in within low_in =
+    let square = nearer far (step + 2) far_in in
     let scaled : step * (far * (far + 1) + 2 * near) ≤ step * ((step + 2) * (step + 3) - 2) = mul-le-mul_left step (omega (arith, square)) in
     let apart : (step + 2) * (step + 3) - 2 ≡ step * step + 5 * step + 4 = omega arith in
     let plain : step * ((step + 2) * (step + 3) - 2) ≡ step * (step * step + 5 * step + 4) = ap (λ v. step * v) apart in
@@ -109,36 +125,37 @@ twice_longest-from_2 step =
     let inner : (step + 2) * (step + 2) - (step + 2) ≡ (step + 2) * (step + 1) = omega arith in
     ap (λ v. (step + 2) * (v + 2)) inner
 
-pub twice_rank-bound : (n far near turns fresh : ℕ) → far < n → near ≤ far → fresh ≤ n * min (n - 1) 1 → twice_rank n far near turns fresh + 2 ≤ twice_longest n
-twice_rank-bound n far near turns fresh far_in within few =
+pub twice_rank-bound : (n : ℕ) (d : Distances) → d.far < n → d.near ≤ d.far → d.fresh ≤ n * min (n - 1) 1 → twice_rank n d + 2 ≤ twice_longest n
+twice_rank-bound n d far_in within few =
     elim (cases_lt 1 n) [
       | inl more ↦
           let e : n ≡ n - 2 + 2 = omega arith in
           let one : n * min (n - 1) 1 ≡ n * 1 = ap (λ v. n * v) (omega arith) in
-          let most = twice_rank-most (n - 2) far near (min turns (n - 2)) fresh (omega arith) within (omega arith) (omega (arith, one)) in
+          let most = twice_rank-most (n - 2) d.far d.near (low_of n d) (omega arith) within (omega (arith, one)) in
           let bound : twice_longest n ≡ (n - 2 + 2) * ((n - 2 + 2) * (n - 2 + 1) + 2) = ap twice_longest e ∙ twice_longest-from_2 (n - 2) in
           omega (arith, most, bound)
       | inr one ↦
           let e : n ≡ 1 = omega arith in
-          subst (λ m. far < m → fresh ≤ m * min (m - 1) 1 → twice_rank m far near turns fresh + 2 ≤ twice_longest m) (sym e)
-          (λ far_in few. omega arith) far_in few
+          subst (λ m. d.far < m → d.fresh ≤ m * min (m - 1) 1 → twice_rank m d + 2 ≤ twice_longest m) (sym e) (λ far_in few. omega arith) far_in few
     ]
 
 -- and the bound is of one slot or more
 pub twice_longest-some : (n : ℕ) → 0 < n → 2 ≤ twice_longest n
-twice_longest-some n some = let least = twice_rank-bound n 0 0 0 0 some (omega arith) (omega arith) in omega (arith, least)
+twice_longest-some n some =
+    let least = twice_rank-bound n (record { far = 0; near = 0; turns = 0; fresh = 0 }) some (omega arith) (omega arith) in
+    omega (arith, least)
 
 -- the rank is greatest only where the input is as far as can be, and so is the other, and all are fresh
-twice_rank-less : (step far near low fresh : ℕ) → far < step + 2 → near ≤ far → low ≤ step → fresh ≤ step + 2 → 0 < step → (near < step + 1)
-    ⊎ (fresh < step + 2) → step * (far * (far + 1) + 2 * near) + 2 * (far + low + fresh) + 4 ≤ (step + 2) * ((step + 2) * (step + 1) + 2)
-twice_rank-less step far near low fresh far_in within low_in fresh_in some one =
-    let square : (far + 1) * (far + 2) ≤ (step + 2) * (step + 3) = mul-le (far + 1) (far + 2) (step + 2) (step + 3) (omega arith) (omega arith) in
+twice_rank-less : (step far near low : ℕ) → far < step + 2 → near ≤ far → low ≤ step + (step + 2) → 0 < step
+    → (near < step + 1) ⊎ (low < step + (step + 2)) → step * (far * (far + 1) + 2 * near) + 2 * (far + low) + 4 ≤ (step + 2) * ((step + 2) * (step + 1) + 2)
+twice_rank-less step far near low far_in within low_in some one =
+    let square = nearer far (step + 2) far_in in
     let apart : (step + 2) * (step + 3) ≡ step * step + 5 * step + 6 = omega arith in
     let grown : 0 ≤ step * step = omega arith in
     elim one [
       | inl near_less ↦ elim (cases_lt far (step + 1)) [
-        | inl nearer ↦
-            let lower : (far + 1) * (far + 2) ≤ (step + 1) * (step + 2) = mul-le (far + 1) (far + 2) (step + 1) (step + 2) (omega arith) (omega arith) in
+        | inl short ↦
+            let lower = nearer far (step + 1) short in
             let scaled : step * (far * (far + 1) + 2 * near) ≤ step * (step * step + 3 * step) = mul-le-mul_left step (omega (arith, lower)) in
             let squares : 1 * step ≤ step * step = mul-le 1 step step step (omega arith) (omega arith) in
             omega (arith, scaled, squares)
@@ -151,11 +168,11 @@ twice_rank-less step far near low fresh far_in within low_in fresh_in some one =
           omega (arith, scaled)
     ]
 
-pub twice_rank-short : (n far near turns fresh : ℕ) → 2 < n → far < n → near ≤ far → fresh ≤ n → (near + 1 < n) ⊎ (fresh < n)
-    → twice_rank n far near turns fresh + 4 ≤ twice_longest n
-twice_rank-short n far near turns fresh more far_in within few one =
+pub twice_rank-short : (n : ℕ) (d : Distances) → 2 < n → d.far < n → d.near ≤ d.far → d.fresh ≤ n → (d.near + 1 < n) ⊎ (d.fresh < n)
+    → twice_rank n d + 4 ≤ twice_longest n
+twice_rank-short n d more far_in within few one =
     let e : n ≡ n - 2 + 2 = omega arith in
-    let either : (near < n - 2 + 1) ⊎ (fresh < n - 2 + 2) = elim one [ inl near_less ↦ inl (omega arith) | inr fewer ↦ inr (omega arith) ] in
-    let less = twice_rank-less (n - 2) far near (min turns (n - 2)) fresh (omega arith) within (omega arith) (omega arith) (omega arith) either in
+    let either : (d.near < n - 2 + 1) ⊎ (low_of n d < n - 2 + (n - 2 + 2)) = elim one [ inl near_less ↦ inl (omega arith) | inr fewer ↦ inr (omega arith) ] in
+    let less = twice_rank-less (n - 2) d.far d.near (low_of n d) (omega arith) within (omega arith) (omega arith) either in
     let bound : twice_longest n ≡ (n - 2 + 2) * ((n - 2 + 2) * (n - 2 + 1) + 2) = ap twice_longest e ∙ twice_longest-from_2 (n - 2) in
     omega (arith, less, bound)

@@ -14,11 +14,12 @@ use Rattle.eslip_rounds.proofs.Deciding.{Names-decides}
 use Rattle.service_bound.specs.Windows.{GainAtMostOne}
 use Rattle.service_bound.proofs.Distances.{distance-passed}
 use Rattle.service_bound.proofs.Fresh.{fresh_of, fresh-accepted}
-use Rattle.service_bound.proofs.Rank.{twice_rank, twice_rank-turns_twice, twice_rank-near_twice, twice_rank-near_by_two, twice_rank-far_twice}
+use Rattle.service_bound.proofs.Rank.{twice_rank-turns_twice, twice_rank-near_twice, twice_rank-near_by_two, twice_rank-far_twice}
 use Rattle.service_bound.proofs.FirstRound.{grants_first, first_granted}
-use Rattle.service_bound.proofs.Granting.{kind_is_first, served_by_first, refused}
+use Rattle.service_bound.proofs.LaterRounds.{Turn}
+use Rattle.service_bound.proofs.Granting.{IsQuietFor-clean, kind_is_first, served_by_first, refused}
 use Rattle.service_bound.proofs.InWindows.{AskOn}
-use Rattle.service_bound.proofs.RankFalls.{twice_rank_of, falls}
+use Rattle.service_bound.proofs.RankFalls.{distances_of, twice_rank_of, falls}
 use Rattle.service_bound.proofs.LineRateClasses.{IsFarAmongFresh, IsAlone, IsBeside, IsLower, IsOpening, other_asks, apart_from_next}
 use Rattle.service_bound.proofs.LineRateClasses.{FallsByTwo, two_steps, alone_refused}
 
@@ -50,8 +51,27 @@ module _ (n t level : ℕ) (rows : List Row) (first matched : List (Option Fed))
     -- by one, whatever the class, into rows of either
     once : IsLower n level i j after later → FallsLower n level i j g before after later
     once into =
-        let by = falls n t level rows first matched before after slot.level_in slot.begins slot.moved slot.pointing slot.clean slot.alone i j g
-        request.input_in request.output_in request.other_in request.named request.asks request.left in
+        let turn : Turn n level = record {
+          t = t;
+          rows = rows;
+          first = first;
+          matched = matched;
+          before = before;
+          after = after;
+          level_in = slot.level_in;
+          begins = slot.begins;
+          moved = slot.moved;
+          pointing = slot.pointing;
+        } in
+        let by = falls n level turn i j g (record {
+          input = request.input_in;
+          output = request.output_in;
+          other = request.other_in;
+          quiet = IsQuietFor-clean n level j rows slot.clean slot.alone;
+          named = request.named;
+          asks = request.asks;
+          left = request.left;
+        }) in
         record { input = by.0; input_in = by.1.input_in; asks = request.on by.0 by.1.input_in by.1.asks by.1.left; lower = inr (by.1.lower, into) }
 
     -- any other is nearer than input i
@@ -66,37 +86,32 @@ module _ (n t level : ℕ) (rows : List Row) (first matched : List (Option Fed))
         omega (arith, far, place_in, differ)
 
     module _ (base : IsFarAmongFresh n level i j before) (nobody : (x : ℕ) → Serves first x j level Uni → ⊥) where
-      -- a rank after the slot, where output j's grant pointer stayed
-      there : (x : ℕ) → twice_rank n (distance n (grant_of before j level) i) (distance n (grant_of before j level) x)
-          (distance n (accept_of after x level) j) (fresh_of n level after i j) + 4 ≤ twice_rank_of n level before i j g
-          → twice_rank_of n level after i j x + 4 ≤ twice_rank_of n level before i j g
-      there x lower = subst (λ p. twice_rank n (distance n p i) (distance n p x) (distance n (accept_of after x level) j)
-          (fresh_of n level after i j) + 4 ≤ twice_rank_of n level before i j g) (sym (slot.moved.grant_stays j level nobody)) lower
+      -- output j's grant pointer stays
+      stays : (x : ℕ) → distance n (grant_of after j level) x ≡ distance n (grant_of before j level) x
+      stays x = ap (λ p. distance n p x) (slot.moved.grant_stays j level nobody)
 
       -- where the input made two steps
       by_steps : Two g → twice_rank_of n level after i j g + 4 ≤ twice_rank_of n level before i j g
-      by_steps two = there g (twice_rank-turns_twice n (distance n (grant_of before j level) i) (distance n (grant_of before j level) g)
-          (distance n (accept_of before g level) j) (fresh_of n level before i j) (distance n (accept_of after g level) j)
-          (fresh_of n level after i j) two.nearer)
+      by_steps two =
+          twice_rank-turns_twice n (distances_of n level after i j g) (distances_of n level before i j g) (omega (arith, stays i)) (omega (arith, stays g))
+          two.nearer
 
       -- where a nearer one asks
       by_nearer : (x : ℕ) → distance n (grant_of before j level) x < distance n (grant_of before j level) g
           → min (distance n (accept_of after x level) j) (n - 2) + fresh_of n level after i j + 2 ≤ (n - 2) +
           (min (distance n (accept_of before g level) j) (n - 2) + fresh_of n level before i j)
           → twice_rank_of n level after i j x + 4 ≤ twice_rank_of n level before i j g
-      by_nearer x less lower = there x
-          (twice_rank-near_twice n (distance n (grant_of before j level) i) (distance n (grant_of before j level) g) (distance n (accept_of before g level) j)
-          (fresh_of n level before i j) (distance n (grant_of before j level) x) (distance n (accept_of after x level) j)
-          (fresh_of n level after i j) less lower)
+      by_nearer x less lower =
+          twice_rank-near_twice n (distances_of n level after i j x) (distances_of n level before i j g) (omega (arith, stays i)) (omega (arith, stays x, less))
+          lower
 
       -- where one nearer by two asks
       by_two_nearer : (x : ℕ) → distance n (grant_of before j level) x + 2 ≤ distance n (grant_of before j level) g
           → 1 ≤ min (distance n (accept_of before g level) j) (n - 2) → fresh_of n level after i j ≤ fresh_of n level before i j
           → twice_rank_of n level after i j x + 4 ≤ twice_rank_of n level before i j g
       by_two_nearer x less some also =
-          there x (twice_rank-near_by_two n (distance n (grant_of before j level) i) (distance n (grant_of before j level) g)
-          (distance n (accept_of before g level) j) (fresh_of n level before i j) (distance n (grant_of before j level) x)
-          (distance n (accept_of after x level) j) (fresh_of n level after i j) less some also)
+          twice_rank-near_by_two n (distances_of n level after i j x) (distances_of n level before i j g) (omega (arith, stays i))
+          (omega (arith, stays x, less)) some also
 
       -- class A
       from_alone : IsAlone n level i j before rows → (y : ℕ) → Serves first i y level Uni
@@ -210,17 +225,9 @@ module _ (n t level : ℕ) (rows : List Row) (first matched : List (Option Fed))
               let full = now.base.fresh x now.below now.other in
               omega (arith, e, full, slot.more)
         ] in
-        let lower = twice_rank-far_twice n (distance n (grant_of before j level) i) (distance n (grant_of before j level) g)
-        (distance n (accept_of before g level) j) (fresh_of n level before i j)
-        (distance n ((x + 1) % n) i) (distance n ((x + 1) % n) i) (distance n (accept_of after i level) j) (fresh_of n level after i j)
-        (omega (arith, passed)) (omega arith) no_fresher slot.more some in
-        record {
-          input = i;
-          input_in = request.input_in;
-          asks = request.on i request.input_in request.named request.left;
-          lower = inl (subst (λ p. twice_rank n (distance n p i) (distance n p i) (distance n (accept_of after i level) j)
-              (fresh_of n level after i j) + 4 ≤ twice_rank_of n level before i j g) (sym place) lower);
-        }
+        let closer : distance n (grant_of after j level) i < distance n (grant_of before j level) i = rw place (omega (arith, passed)) in
+        let lower = twice_rank-far_twice n (distances_of n level after i j i) (distances_of n level before i j g) closer (omega arith) no_fresher slot.more some in
+        record { input = i; input_in = request.input_in; asks = request.on i request.input_in request.named request.left; lower = inl lower }
 
     -- from rows of either class
     pub falls_lower : IsLower n level i j before rows → FallsLower n level i j g before after later

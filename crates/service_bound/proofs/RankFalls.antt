@@ -1,149 +1,140 @@
 -- In a slot of a window without multicast the rank of a request falls where it is not served.
-use Rattle.std.proofs.Common.{◌≡◌, ℕ, ◌+◌, ◌<◌, ◌≤◌, List, Option, subst, inl, inr, arith}
+use Rattle.std.proofs.Common.{◌≡◌, ℕ, ◌+◌, ◌<◌, ◌≤◌, ap, subst, inl, inr, arith}
 use Rattle.std.proofs.lemmas.Bool.{cases_eq}
 use Rattle.rotating_pick.specs.Rotation.{distance, IsFirstFrom}
 use Rattle.rotating_pick.specs.declared.kinds.Kind.TheVariants.{Uni}
-use Rattle.rotating_pick.specs.declared.limits.TheConstants.{LEVELS}
 use Rattle.rotating_pick.proofs.Circle.{distance-lt}
 use Rattle.rotating_pick.proofs.Picking.{IsFirstFrom-some, distance-injective}
-use Rattle.slot_match.specs.declared.rows.Row.{Row}
-use Rattle.slot_match.specs.declared.matching.Fed.{Fed}
 use Rattle.slot_match.specs.Rows.{Names, row_of}
 use Rattle.slot_match.specs.Matches.{unmatched, Serves}
 use Rattle.pointer_state.specs.Places.{Places, ArePointing, grant_of, accept_of}
 use Rattle.eslip_rounds.specs.Rounds.{Grants}
-use Rattle.eslip_rounds.specs.Slots.{AreMoved}
-use Rattle.eslip_rounds.specs.Schedules.{DecidedSlot}
 use Rattle.eslip_rounds.proofs.Deciding.{Names-decides}
-use Rattle.service_bound.specs.Windows.{IsClean, IsWithoutMulticast, IsQuietFor}
+use Rattle.service_bound.specs.Windows.{IsQuietFor}
 use Rattle.service_bound.proofs.Distances.{distance-passed}
 use Rattle.service_bound.proofs.Fresh.{fresh_of, fresh_of-most, fresh-accepted, stale-refused}
-use Rattle.service_bound.proofs.Rank.{twice_longest, twice_rank, twice_rank-far, twice_rank-near, twice_rank-turns, twice_rank-bound}
-use Rattle.service_bound.proofs.LaterRounds.{first_of, BeginsWith, BeginsWith-slot}
-use Rattle.service_bound.proofs.Granting.{quiet_grants, quiet_served, quiet_refused, IsQuietFor-clean}
-use Rattle.service_bound.proofs.InWindows.{IsKeptSlotBy, IsWindowSlot}
+use Rattle.service_bound.proofs.Rank.{Distances, twice_longest, twice_rank, twice_rank-far, twice_rank-near, twice_rank-turns, twice_rank-bound}
+use Rattle.service_bound.proofs.LaterRounds.{Turn}
+use Rattle.service_bound.proofs.Granting.{quiet_grants, quiet_served, quiet_refused}
 
--- twice the rank of the request of input i for output j, where input g asks for it too
+-- what the rank of the request of input i for output j is made of, where input g asks for it too
+abbrev pub distances_of : ℕ → ℕ → Places → ℕ → ℕ → ℕ → Distances
+distances_of n level places i j g = record {
+  far = distance n (grant_of places j level) i;
+  near = distance n (grant_of places j level) g;
+  turns = distance n (accept_of places g level) j;
+  fresh = fresh_of n level places i j;
+}
+
+-- twice that rank
 abbrev pub twice_rank_of : ℕ → ℕ → Places → ℕ → ℕ → ℕ → ℕ
-twice_rank_of n level places i j g =
-    twice_rank n (distance n (grant_of places j level) i) (distance n (grant_of places j level) g) (distance n (accept_of places g level) j)
-    (fresh_of n level places i j)
+twice_rank_of n level places i j g = twice_rank n (distances_of n level places i j g)
+
+-- The slot leaves the request of input i for output j, which is asked as unicast of the level alone; input g asks for it too.
+pub record IsLeft (n level : ℕ) (turn : Turn n level) (i j g : ℕ) : Type 0 where
+  pub input : i < n
+  pub output : j < n
+  pub other : g < n
+  pub quiet : IsQuietFor n level j turn.rows
+  pub named : Names (row_of turn.rows i) level Uni j
+  pub asks : Names (row_of turn.rows g) level Uni j
+  pub left : Serves turn.matched i j level Uni → ⊥
 
 -- After the slot input h asks on, not served and no farther from the grant pointer than i, and by it the
 -- request's rank is lower than it was by g.
-pub record FallsBy (n level : ℕ) (rows : List Row) (matched : List (Option Fed)) (before after : Places) (i j g h : ℕ) : Type 0 where
+pub record FallsBy (n level : ℕ) (turn : Turn n level) (i j g h : ℕ) : Type 0 where
   pub input_in : h < n
-  pub asks : Names (row_of rows h) level Uni j
-  pub left : Serves matched h j level Uni → ⊥
-  pub within : distance n (grant_of after j level) h ≤ distance n (grant_of after j level) i
-  pub lower : twice_rank_of n level after i j h + 2 ≤ twice_rank_of n level before i j g
+  pub asks : Names (row_of turn.rows h) level Uni j
+  pub left : Serves turn.matched h j level Uni → ⊥
+  pub within : distance n (grant_of turn.after j level) h ≤ distance n (grant_of turn.after j level) i
+  pub lower : twice_rank_of n level turn.after i j h + 2 ≤ twice_rank_of n level turn.before i j g
 
-module _ (n t level : ℕ) (rows : List Row) (first matched : List (Option Fed)) (before after : Places) (level_in : level < LEVELS)
-    (begins : BeginsWith n t rows before first matched) (moved : AreMoved n t rows first matched before after) (pointing : ArePointing n level before) where
-  module _ (i j g : ℕ) (i_in : i < n) (j_in : j < n) (g_in : g < n) (quiet : IsQuietFor n level j rows) (named : Names (row_of rows i) level Uni j)
-      (asking : Names (row_of rows g) level Uni j) (left : Serves matched i j level Uni → ⊥) where
-    -- the input that is granted took the output: the grant pointer passes it, and comes nearer to i
-    falls_where_accepted : (h : ℕ) → IsFirstFrom n (grant_of before j level) (λ x. Names (row_of rows x) level Uni j) h → Serves first h j level Uni
-        → FallsBy n level rows matched before after i j g i
-    falls_where_accepted h nearest served =
-        let other : h ≡ i → ⊥ = λ same. left (subst (λ x. Serves matched x j level Uni) same (begins.stays h j level Uni served)) in
-        let from_in = pointing.grant j j_in in
-        let at_most = nearest.least i i_in named in
-        let apart : distance n (grant_of before j level) h ≡ distance n (grant_of before j level) i
-        → ⊥ = λ e. other (distance-injective n (grant_of before j level) h i from_in nearest.below i_in e) in
-        let ahead : distance n (grant_of before j level) h < distance n (grant_of before j level) i = omega arith in
-        let nearer = distance-passed n (grant_of before j level) h i from_in nearest.below i_in ahead in
-        let place = moved.granted h j level served in
-        let closer : distance n (grant_of after j level) i < distance n (grant_of before j level) i = rw place (omega arith) in
-        let no_fresher = fresh-accepted n t level rows first matched begins.opening.count before after moved pointing i j i_in j_in h nearest.below served
-        ahead in
-        record {
-          input_in = i_in;
-          asks = named;
-          left = left;
-          within = omega arith;
-          lower = twice_rank-far n (distance n (grant_of before j level) i) (distance n (grant_of before j level) g) (distance n (accept_of before g level) j)
-              (fresh_of n level before i j)
-              (distance n (grant_of after j level) i) (distance n (grant_of after j level) i) (distance n (accept_of after i level) j)
-              (fresh_of n level after i j)
-              closer (omega arith) no_fresher;
-        }
+module _ (n level : ℕ) (turn : Turn n level) (i j g : ℕ) (asked : IsLeft n level turn i j g) where
+  -- how far an input is from the output's grant pointer before the slot, and after it
+  abbrev far : ℕ → ℕ
+  far = distance n (grant_of turn.before j level)
 
-    -- the input h that is granted took another output y: its accept pointer passes y, and comes nearer to j
-    falls_where_refused : (h y : ℕ) → IsFirstFrom n (grant_of before j level) (λ x. Names (row_of rows x) level Uni j) h
-        → Grants n t rows before (unmatched n) h j level Uni
-        → IsFirstFrom n (accept_of before h level) (λ k. Grants n t rows before (unmatched n) h k level Uni) y → Serves first h y level Uni → (y ≡ j → ⊥)
-        → FallsBy n level rows matched before after i j g h
-    falls_where_refused h y nearest granted accepted served other =
-        let h_in = nearest.below in
-        let nobody = quiet_refused n t level rows first before level_in begins.opening pointing j j_in quiet h y h_in granted accepted other in
-        let stays = moved.grant_stays j level nobody in
-        let no_farther = nearest.least g g_in asking in
-        let stale = stale-refused n t level rows first matched begins.opening.count before after moved pointing i j i_in j_in nobody h y h_in accepted.below
-        served other (accepted.least j j_in granted) (nearest.least i i_in named) in
-        record {
-          input_in = h_in;
-          asks = nearest.member;
-          left = λ also. nobody h (begins.no_more h y j level level Uni served also);
-          within = rw stays (nearest.least i i_in named);
-          lower = rw stays (elim (cases_eq h g) [
-            | inl same ↦
-                let P : ℕ → Type 0 = λ v. twice_rank n (distance n (grant_of before j level) i) (distance n (grant_of before j level) h)
-                (distance n (accept_of after h level) j) (fresh_of n level after i j) + 2 ≤ twice_rank_of n level before i j v in
-                subst P same (twice_rank-turns n (distance n (grant_of before j level) i) (distance n (grant_of before j level) h)
-                (distance n (accept_of before h level) j) (fresh_of n level before i j) (distance n (accept_of after h level) j)
-                (fresh_of n level after i j) stale)
-            | inr new ↦
-                let differ : distance n (grant_of before j level) h ≡ distance n (grant_of before j level) g
-                → ⊥ = λ e. new (distance-injective n (grant_of before j level) h g (pointing.grant j j_in) h_in g_in e) in
-                twice_rank-near n (distance n (grant_of before j level) i) (distance n (grant_of before j level) g) (distance n (accept_of before g level) j)
-                (fresh_of n level before i j) (distance n (grant_of before j level) h) (distance n (accept_of after h level) j)
-                (fresh_of n level after i j) (omega arith) (omega arith)
-          ]);
-        }
+  abbrev far_later : ℕ → ℕ
+  far_later = distance n (grant_of turn.after j level)
 
-    -- either way some input asks on by which the rank falls
-    pub quiet_falls : (h : ℕ) × FallsBy n level rows matched before after i j g h
-    quiet_falls =
-        let nearest = IsFirstFrom-some n (grant_of before j level) (λ x. Names (row_of rows x) level Uni j) (λ x. Names-decides (row_of rows x) level Uni j)
-        (pointing.grant j j_in) g g_in asking in
-        let h = nearest.0 in
-        let granted = quiet_grants n t level rows first before level_in begins.opening pointing j j_in quiet h nearest.1 in
-        let met = quiet_served n t level rows first before level_in begins.opening pointing j j_in quiet h nearest.1.below granted in
-        elim (cases_eq met.0 j) [
-          | inl same ↦ (i, falls_where_accepted h nearest.1 (subst (λ y. Serves first h y level Uni) same met.2))
-          | inr other ↦ (h, falls_where_refused h met.0 nearest.1 granted met.1 met.2 other)
-        ]
+  from_in : grant_of turn.before j level < n
+  from_in = turn.pointing.grant j asked.output
 
-  -- in a slot whose rows name nothing at a better level, and nothing as multicast of the level
-  pub falls : IsClean n level rows → IsWithoutMulticast n level rows → (i j g : ℕ) → i < n → j < n → g < n → Names (row_of rows i) level Uni j
-      → Names (row_of rows g) level Uni j → (Serves matched i j level Uni → ⊥) → (h : ℕ) × FallsBy n level rows matched before after i j g h
-  falls clean alone i j g i_in j_in g_in = quiet_falls i j g i_in j_in g_in (IsQuietFor-clean n level j rows clean alone)
+  apart : (x y : ℕ) → x < n → y < n → (x ≡ y → ⊥) → far x ≡ far y → ⊥
+  apart x y x_in y_in other e = other (distance-injective n (grant_of turn.before j level) x y from_in x_in y_in e)
 
--- the same of a slot of a schedule
-pub falls_in_quiet_slot : (n rounds t level : ℕ) (places : Places) (slot : DecidedSlot) → 0 < rounds → IsKeptSlotBy AreMoved n rounds t level places slot
-    → (i j g : ℕ) → i < n → g < n → IsQuietFor n level j slot.rows → Names (row_of slot.rows i) level Uni j → Names (row_of slot.rows g) level Uni j
-    → (Serves slot.decision.matched i j level Uni → ⊥)
-    → (h : ℕ) × FallsBy n level slot.rows slot.decision.matched places slot.decision.places i j g h
-falls_in_quiet_slot n rounds t level places slot some now i j g i_in g_in quiet named asking left =
-    quiet_falls n t level slot.rows (first_of n now.decided.steps) slot.decision.matched places slot.decision.places
-    (now.within.levels i i_in level j Uni named) (BeginsWith-slot n t slot.rows places AreMoved rounds slot.decision some now.decided) now.decided.moved
-    now.pointing i j g i_in (now.within.ports i i_in level j Uni named) g_in quiet named asking left
+  -- the input that is granted took the output: the grant pointer passes it, and comes nearer to i
+  falls_where_accepted : (h : ℕ) → IsFirstFrom n (grant_of turn.before j level) (λ x. Names (row_of turn.rows x) level Uni j) h
+      → Serves turn.first h j level Uni → FallsBy n level turn i j g i
+  falls_where_accepted h nearest served =
+      let other : h ≡ i → ⊥ = λ same. asked.left (subst (λ x. Serves turn.matched x j level Uni) same (turn.begins.stays h j level Uni served)) in
+      let at_most = nearest.least i asked.input asked.named in
+      let differ : far h ≡ far i → ⊥ = apart h i nearest.below asked.input other in
+      let ahead : far h < far i = omega arith in
+      let nearer = distance-passed n (grant_of turn.before j level) h i from_in nearest.below asked.input ahead in
+      let place = turn.moved.granted h j level served in
+      let closer : far_later i < far i = rw place (omega arith) in
+      let no_fresher = fresh-accepted n turn.t level turn.rows turn.first turn.matched turn.begins.opening.count turn.before turn.after turn.moved
+      turn.pointing i j asked.input asked.output h nearest.below served ahead in
+      record {
+        input_in = asked.input;
+        asks = asked.named;
+        left = asked.left;
+        within = omega arith;
+        lower = twice_rank-far n (distances_of n level turn.after i j i) (distances_of n level turn.before i j g) closer (omega arith) no_fresher;
+      }
 
--- and of a window
-pub falls_in_slot : (n rounds t level : ℕ) (places : Places) (slot : DecidedSlot) → 0 < rounds → IsWindowSlot n rounds t level places slot
-    → IsWithoutMulticast n level slot.rows → (i j g : ℕ) → i < n → g < n → Names (row_of slot.rows i) level Uni j → Names (row_of slot.rows g) level Uni j
-    → (Serves slot.decision.matched i j level Uni → ⊥)
-    → (h : ℕ) × FallsBy n level slot.rows slot.decision.matched places slot.decision.places i j g h
-falls_in_slot n rounds t level places slot some now alone i j g i_in g_in =
-    falls_in_quiet_slot n rounds t level places slot some (record { pointing = now.pointing; decided = now.decided; within = now.within }) i j g i_in g_in
-    (IsQuietFor-clean n level j slot.rows now.clean alone)
+  -- the input h that is granted took another output y: its accept pointer passes y, and comes nearer to j
+  falls_where_refused : (h y : ℕ) → IsFirstFrom n (grant_of turn.before j level) (λ x. Names (row_of turn.rows x) level Uni j) h
+      → Grants n turn.t turn.rows turn.before (unmatched n) h j level Uni
+      → IsFirstFrom n (accept_of turn.before h level) (λ k. Grants n turn.t turn.rows turn.before (unmatched n) h k level Uni) y
+      → Serves turn.first h y level Uni → (y ≡ j → ⊥) → FallsBy n level turn i j g h
+  falls_where_refused h y nearest granted accepted served other =
+      let h_in = nearest.below in
+      let nobody = quiet_refused n turn.t level turn.rows turn.first turn.before turn.level_in turn.begins.opening turn.pointing j asked.output asked.quiet
+      h y h_in granted accepted other in
+      let stays = turn.moved.grant_stays j level nobody in
+      let here : far_later h ≡ far h = ap (λ from. distance n from h) stays in
+      let own : far_later i ≡ far i = ap (λ from. distance n from i) stays in
+      let least = nearest.least i asked.input asked.named in
+      let no_farther = nearest.least g asked.other asked.asks in
+      let stale = stale-refused n turn.t level turn.rows turn.first turn.matched turn.begins.opening.count turn.before turn.after turn.moved turn.pointing
+      i j asked.input asked.output nobody h y h_in accepted.below served other (accepted.least j asked.output granted) least in
+      let new = distances_of n level turn.after i j h in
+      let old = distances_of n level turn.before i j g in
+      record {
+        input_in = h_in;
+        asks = nearest.member;
+        left = λ also. nobody h (turn.begins.no_more h y j level level Uni served also);
+        within = omega (arith, here, own, least);
+        lower = elim (cases_eq h g) [
+          | inl same ↦
+              let turns = ap (λ x. distance n (accept_of turn.before x level) j) same in
+              twice_rank-turns n new old (omega (arith, own)) (omega (arith, here, no_farther, ap far same)) (omega (arith, stale, turns))
+          | inr differs ↦
+              let differ : far h ≡ far g → ⊥ = apart h g h_in asked.other differs in
+              twice_rank-near n new old (omega (arith, own)) (omega (arith, here, no_farther, differ)) (omega (arith, stale))
+        ];
+      }
+
+  -- either way some input asks on by which the rank falls
+  pub falls : (h : ℕ) × FallsBy n level turn i j g h
+  falls =
+      let nearest = IsFirstFrom-some n (grant_of turn.before j level) (λ x. Names (row_of turn.rows x) level Uni j)
+      (λ x. Names-decides (row_of turn.rows x) level Uni j) from_in g asked.other asked.asks in
+      let h = nearest.0 in
+      let granted = quiet_grants n turn.t level turn.rows turn.first turn.before turn.level_in turn.begins.opening turn.pointing j asked.output asked.quiet
+      h nearest.1 in
+      let met = quiet_served n turn.t level turn.rows turn.first turn.before turn.level_in turn.begins.opening turn.pointing j asked.output asked.quiet
+      h nearest.1.below granted in
+      elim (cases_eq met.0 j) [
+        | inl same ↦ (i, falls_where_accepted h nearest.1 (subst (λ y. Serves turn.first h y level Uni) same met.2))
+        | inr other ↦ (h, falls_where_refused h met.0 nearest.1 granted met.1 met.2 other)
+      ]
 
 -- a request that is alone with itself has a rank, and it is below the bound
 pub twice_rank_of-bound : (n level : ℕ) (places : Places) (i j : ℕ) → ArePointing n level places → i < n → j < n
     → twice_rank_of n level places i j i + 2 ≤ twice_longest n
 twice_rank_of-bound n level places i j pointing i_in j_in =
-    let far = distance n (grant_of places j level) i in
-    let few = fresh_of-most n level places i j pointing j_in in
-    twice_rank-bound n far far (distance n (accept_of places i level) j) (fresh_of n level places i j)
-    (distance-lt n (grant_of places j level) i (pointing.grant j j_in)) (omega arith) few
+    twice_rank-bound n (distances_of n level places i j i) (distance-lt n (grant_of places j level) i (pointing.grant j j_in)) (omega arith)
+    (fresh_of-most n level places i j pointing j_in)

@@ -11,17 +11,19 @@ use Rattle.slot_match.specs.Matches.{Serves}
 use Rattle.pointer_state.specs.Places.{Places, ArePointing, grant_of, accept_of}
 use Rattle.eslip_rounds.specs.Slots.{AreMoved}
 use Rattle.eslip_rounds.specs.Schedules.{DecidedSlot}
-use Rattle.service_bound.specs.Windows.{IsWithoutMulticast, InFirst, GainAtMostOne, AreAtLineRate, IsWindow}
+use Rattle.service_bound.specs.Windows.{IsWithoutMulticast, InFirst, AreAtLineRate, IsWindow}
 use Rattle.service_bound.specs.Waits.{noted_of, longest_wait, longest_service}
 use Rattle.service_bound.proofs.Fresh.{fresh_for, fresh_of, fresh_of-most}
 use Rattle.service_bound.proofs.LaterRounds.{first_of, BeginsWith-slot}
-use Rattle.service_bound.proofs.InWindows.{AreMoved-keep}
+use Rattle.service_bound.proofs.InWindows.{AreMoved-keep, turn_of}
 use Rattle.service_bound.proofs.Rank.{twice_longest, twice_rank-short, twice_rank-bound}
-use Rattle.service_bound.proofs.RankFalls.{twice_rank_of, falls_in_slot, twice_rank_of-bound}
+use Rattle.service_bound.proofs.RankFalls.{distances_of, twice_rank_of, falls, twice_rank_of-bound}
 use Rattle.service_bound.proofs.LineRateClasses.{IsLower, other_asks}
 use Rattle.service_bound.proofs.RankAtLineRate.{falls_lower}
-use Rattle.service_bound.proofs.OneRoundServedAtLineRate.{ones_of, gains_nothing}
-use Rattle.service_bound.proofs.Falling.{IsFallingWhere, served_where, longest_where}
+use Rattle.service_bound.proofs.OneRoundServedAtLineRate.{ones_of}
+use Rattle.service_bound.proofs.AllBelow.{longest_wait-below}
+use Rattle.service_bound.proofs.Granting.{IsQuietFor-clean}
+use Rattle.service_bound.proofs.Falling.{IsBound, bound_by, line_rate_rows, line_rate_in}
 
 -- Where these rows are posted: the input asks, and so does one by which the rank, or in rows of either class the rank
 -- less 1, is below `most`.
@@ -43,8 +45,7 @@ begins_lower n level i j places rows more pointing i_in j_in named =
     let few : fresh_of n level places i j ≤ n = omega (arith, most, one) in
     let short : (g : ℕ) → distance n (grant_of places j level) g ≤ distance n (grant_of places j level) i → (distance n (grant_of places j level) g + 1 < n)
     ⊎ (fresh_of n level places i j < n) → twice_rank_of n level places i j g + 4 ≤ twice_longest n
-    = λ g within less. twice_rank-short n (distance n (grant_of places j level) i) (distance n (grant_of places j level) g)
-    (distance n (accept_of places g level) j) (fresh_of n level places i j) more far_in within few less in
+    = λ g within less. twice_rank-short n (distances_of n level places i j g) more far_in within few less in
     let own : (distance n (grant_of places j level) i + 1 < n) ⊎ (fresh_of n level places i j < n) → AsksByLower n level i j places (longest_service n - 1) rows
     = λ less. let lower = short i (omega arith) less in
     record { named = named; input = i; input_in = i_in; asks = named; below = inl (omega (arith, lower)) } in
@@ -94,21 +95,40 @@ lower-more n level places rows i j g more lower = elim lower [
   | inr late ↦ let far = late.1.base.far in omega (arith, far, more)
 ]
 
+-- the bound is of two slots or more
+longest-two : (n : ℕ) → 2 < n → 2 ≤ longest_service n
+longest-two n more =
+    let bound = twice_rank-bound n (record { far = 2; near = 0; turns = 0; fresh = 0 }) (omega arith) (omega arith) (omega arith) in
+    omega (arith, bound)
+
 -- a slot of a window that leaves the request makes the rank lower
-lower_falls : (n rounds level i j : ℕ) → 2 < n → 0 < rounds → i < n
-    → IsFallingWhere (GainAtMostOne n level) AreMoved n rounds level i j (longest_service n - 1) (AsksByLower n level i j)
-lower_falls n rounds level i j more rounds_some i_in =
-    record {
-      begins = λ t places slot now named. begins_lower n level i j places slot.rows more now.pointing i_in (now.within.ports i i_in level j Uni named) named;
+lower_bound : (n rounds level i j : ℕ) → 2 < n → 0 < rounds → i < n
+    → IsBound (line_rate_rows n level) AreMoved n rounds level i j (longest_service n - 1)
+lower_bound n rounds level i j more rounds_some i_in =
+    bound_by (line_rate_rows n level) AreMoved n rounds level i j (longest_service n - 1) (record {
+      AsksWithin = AsksByLower n level i j;
+      keep = AreMoved-keep n level;
+      positive = let two = longest-two n more in omega (arith, two);
+      begins = λ t places slot now held named.
+          begins_lower n level i j places slot.rows more now.pointing i_in (now.within.ports i i_in level j Uni named) named;
       some = λ places most rows pointing within asks. elim asks.below [
         | inl below ↦ omega (arith, below)
         | inr lower ↦ let rank = lower-more n level places rows i j asks.input more lower.1 in let below = lower.0 in omega (arith, rank, below)
       ];
-      falls = λ t places slot most now alone left asks later gains on.
+      falls = λ t places slot most now held left asks later gains on.
           let here = on i i_in asks.named left in
           elim asks.below [
             | inl below ↦
-                let by = falls_in_slot n rounds t level places slot rounds_some now alone i j asks.input i_in asks.input_in asks.named asks.asks left in
+                let turn = turn_of n rounds t level places slot rounds_some (now.within.levels i i_in level j Uni asks.named) now in
+                let by = falls n level turn i j asks.input (record {
+                  input = i_in;
+                  output = now.within.ports i i_in level j Uni asks.named;
+                  other = asks.input_in;
+                  quiet = IsQuietFor-clean n level j slot.rows held.0 held.1;
+                  named = asks.named;
+                  asks = asks.asks;
+                  left = left;
+                }) in
                 let less = by.1.lower in
                 record {
                   named = here;
@@ -124,8 +144,8 @@ lower_falls n rounds level i j more rounds_some i_in =
                   begins = BeginsWith-slot n t slot.rows places AreMoved rounds slot.decision rounds_some now.decided;
                   moved = now.decided.moved;
                   pointing = now.pointing;
-                  clean = now.clean;
-                  alone = alone;
+                  clean = held.0;
+                  alone = held.1;
                   more = more;
                 }) later i j asks.input (record {
                   input_in = i_in;
@@ -148,11 +168,7 @@ lower_falls n rounds level i j more rounds_some i_in =
                   ];
                 }
           ];
-    }
-
--- the bound is of two slots or more
-longest-two : (n : ℕ) → 2 < n → 2 ≤ longest_service n
-longest-two n more = let bound = twice_rank-bound n 2 0 0 0 (omega arith) (omega arith) (omega arith) in omega (arith, bound)
+    })
 
 -- one slot less is enough
 pub served_at_line_rate : (n rounds t level i j : ℕ) (places : Places) (slots : List DecidedSlot) → 2 < n → 0 < rounds → i < n
@@ -160,10 +176,8 @@ pub served_at_line_rate : (n rounds t level i j : ℕ) (places : Places) (slots 
     → InFirst (λ rows. Names (row_of rows i) level Uni j) slots
     → longest_service n ≤ length slots + 1 → Any (λ slot. Serves slot.decision.matched i j level Uni) slots
 served_at_line_rate n rounds t level i j places slots more some i_in window alone gains named long =
-    let two = longest-two n more in
-    served_where (GainAtMostOne n level) (gains_nothing n level) AreMoved n rounds level i j (longest_service n - 1) (AsksByLower n level i j)
-    (AreMoved-keep n level) (omega (arith, two)) (lower_falls n rounds level i j more some i_in) t places slots window alone gains named
-    (omega (arith, long))
+    (lower_bound n rounds level i j more some i_in).served t places slots
+    (line_rate_in AreMoved n rounds t level places slots (record { window = window; alone = alone }) gains) named (omega (arith, long))
 
 -- and no queue waits for as many
 pub longest_wait-at_line_rate : (n rounds t level : ℕ) (places : Places) (slots : List DecidedSlot) → 2 < n → 0 < rounds
@@ -171,7 +185,7 @@ pub longest_wait-at_line_rate : (n rounds t level : ℕ) (places : Places) (slot
     → longest_wait n level (map noted_of slots) + 1 < longest_service n
 longest_wait-at_line_rate n rounds t level places slots more some window alone gains =
     let two = longest-two n more in
-    let below = longest_where (GainAtMostOne n level) (gains_nothing n level) AreMoved n rounds t level (longest_service n - 1)
-    (AsksByLower n level) places slots (AreMoved-keep n level) (omega (arith, two))
-    (λ i j i_in. lower_falls n rounds level i j more some i_in) window alone gains in
+    let so = line_rate_in AreMoved n rounds t level places slots (record { window = window; alone = alone }) gains in
+    let below = longest_wait-below n level (longest_service n - 1) (map noted_of slots) (omega (arith, two))
+    (λ i j i_in j_in. (lower_bound n rounds level i j more some i_in).waits t places slots so) in
     omega (arith, below)

@@ -31,7 +31,8 @@ use Rattle.service_bound.proofs.Granting.{kind_alone, kind_is_first, served_by_f
 use Rattle.service_bound.proofs.Fresh.{accept_later}
 use Rattle.service_bound.specs.Waits.{noted_of, longest_wait}
 use Rattle.service_bound.proofs.InWindows.{AreMoved-keep, IsWindowSlot}
-use Rattle.service_bound.proofs.Falling.{IsFalling, served_by_falling, longest_by_falling}
+use Rattle.service_bound.proofs.AllBelow.{longest_wait-below}
+use Rattle.service_bound.proofs.Falling.{IsBound, bound_by, unicast_rows, unicast_in}
 
 -- of two ports, what is not one is the other
 other_of_two : (a b c : ℕ) → a < 2 → b < 2 → c < 2 → (a ≡ b → ⊥) → (c ≡ b → ⊥) → a ≡ c
@@ -230,31 +231,40 @@ module _ (rounds level i j : ℕ) (two : 1 < rounds) (i_in : i < 2) where
           | inr other ↦ falls_where_refused h met.0 nearest.1 granted met.1 met.2 other
         ]
 
-  two_falling : IsFalling AreMoved 2 rounds level i j 3 (AsksWithin level i j)
-  two_falling =
-      record {
-        begins = λ t places slot now named.
+  two_bound : IsBound (unicast_rows 2 level) AreMoved 2 rounds level i j 3
+  two_bound =
+      bound_by (unicast_rows 2 level) AreMoved 2 rounds level i j 3 (record {
+        AsksWithin = AsksWithin level i j;
+        keep = AreMoved-keep 2 level;
+        positive = omega arith;
+        begins = λ t places slot now held named.
             let far = distance-lt 2 (grant_of places j level) i (now.pointing.grant j (now.within.ports i i_in level j Uni named)) in
             let turns = distance-lt 2 (accept_of places i level) j (now.pointing.accept i i_in) in
             record { named = named; below = omega (arith, far, turns) };
         some = λ places most rows pointing within asks. let below = asks.below in omega (arith, below);
-        falls = λ t places slot most now alone left asks later on.
-            let lower = rank_falls t places slot now alone asks.named left in
+        falls = λ t places slot most now held left asks later follow on.
+            let window : IsWindowSlot 2 rounds t level places slot = record {
+              pointing = now.pointing;
+              decided = now.decided;
+              within = now.within;
+              clean = held.0;
+            } in
+            let lower = rank_falls t places slot window held.1 asks.named left in
             let below = asks.below in
             record { named = on i i_in asks.named left; below = omega (arith, lower, below) };
-      }
+      })
 
 -- three slots are enough
 pub two_served_in_time : (rounds t level i j : ℕ) (places : Places) (slots : List DecidedSlot) → 1 < rounds → i < 2 → IsWindow 2 rounds t level places slots
     → All (λ slot. IsWithoutMulticast 2 level slot.rows) slots → InFirst (λ rows. Names (row_of rows i) level Uni j) slots
     → 3 ≤ length slots → Any (λ slot. Serves slot.decision.matched i j level Uni) slots
-two_served_in_time rounds t level i j places slots two i_in =
-    served_by_falling AreMoved 2 rounds level i j 3 (AsksWithin level i j) (AreMoved-keep 2 level) (omega arith)
-    (two_falling rounds level i j two i_in) t places slots
+two_served_in_time rounds t level i j places slots two i_in window alone =
+    (two_bound rounds level i j two i_in).served t places slots
+    (unicast_in AreMoved 2 rounds t level places slots (record { window = window; alone = alone }))
 
 -- and no queue waits for as many
 pub two_longest_wait-bound : (rounds t level : ℕ) (places : Places) (slots : List DecidedSlot) → 1 < rounds → IsWindow 2 rounds t level places slots
     → All (λ slot. IsWithoutMulticast 2 level slot.rows) slots → longest_wait 2 level (map noted_of slots) < 3
-two_longest_wait-bound rounds t level places slots two =
-    longest_by_falling AreMoved 2 rounds t level 3 (AsksWithin level) places slots (AreMoved-keep 2 level) (omega arith)
-    (λ i j i_in. two_falling rounds level i j two i_in)
+two_longest_wait-bound rounds t level places slots two window alone =
+    let so = unicast_in AreMoved 2 rounds t level places slots (record { window = window; alone = alone }) in
+    longest_wait-below 2 level 3 (map noted_of slots) (omega arith) (λ i j i_in j_in. (two_bound rounds level i j two i_in).waits t places slots so)

@@ -1,5 +1,5 @@
 -- Where each input asks for one output alone, an output's pointer passes the others once at most before it grants it.
-use Rattle.std.proofs.Common.{◌≡◌, ◌∙◌, ◌+◌, ◌<◌, ap, sym, subst, arith, ℕ, List}
+use Rattle.std.proofs.Common.{◌≡◌, ◌∙◌, ◌+◌, ◌<◌, ap, map, sym, subst, arith, ℕ, List}
 use Rattle.std.proofs.lemmas.Option.{same_Some}
 use Rattle.rotating_pick.specs.Rotation.{distance}
 use Rattle.rotating_pick.specs.declared.kinds.Kind.TheVariants.{Uni}
@@ -15,9 +15,11 @@ use Rattle.eslip_rounds.specs.Schedules.{DecidedSlot}
 use Rattle.eslip_rounds.specs.Schedulers.{IsSchedulerBy}
 use Rattle.eslip_rounds.proofs.Scheduling.{IsSchedulerBy-decision_of, IsSlotBy-moved}
 use Rattle.named_schedulers.specs.Named.{decision_named}
+use Rattle.service_bound.specs.Waits.{noted_of}
 use Rattle.service_bound.specs.Windows.{IsWithoutMulticast}
 use Rattle.service_bound.proofs.Distances.{distance-passed}
-use Rattle.service_bound.proofs.Falling.{IsFalling, longest_by_falling}
+use Rattle.service_bound.proofs.AllBelow.{longest_wait-below}
+use Rattle.service_bound.proofs.Falling.{IsBound, bound_by, unicast_in, unicast_rows}
 use Rattle.service_bound.proofs.FirstRound.{first_granted, grants_first}
 use Rattle.service_bound.proofs.Granting.{kind_is_first, served_by_first}
 use Rattle.service_bound.proofs.InWindows.{AreMoved-keep, IsWindowSlotBy, KeepPointing}
@@ -63,7 +65,7 @@ module _ (n rounds : ℕ) (some : 0 < rounds) where
       let begins : BeginsWith n t rows places first slot.decision.matched = BeginsWith-slot n t rows places MoveByOne rounds slot.decision some now.decided in
       let j_in : j < n = now.within.ports i i_in 0 j Uni asks.named in
       let from_in = now.pointing.grant j j_in in
-      let (g, nearest) = nearest_of n 0 places rows i j now.pointing i_in j_in asks.named in
+      let (g, nearest) = nearest_of n 0 places rows i j from_in i_in asks.named in
       let g_in = nearest.below in
       let only = kind_is_first n t 0 rows first places level_in begins.opening now.pointing now.clean alone in
       let granted = grants_first n t rows places 0 level_in now.clean Uni only g j j_in nearest in
@@ -81,14 +83,23 @@ module _ (n rounds : ℕ) (some : 0 < rounds) where
       let near = asks.near in
       rw moved (omega (arith, passed, near))
 
-  one-falling : (i j : ℕ) → i < n → IsFalling MoveByOne n rounds 0 i j n (AsksNear n i j)
-  one-falling i j i_in = record {
-    begins = λ t places slot now named.
+  one-bound : (i j : ℕ) → i < n → IsBound (unicast_rows n 0) MoveByOne n rounds 0 i j n
+  one-bound i j i_in = bound_by (unicast_rows n 0) MoveByOne n rounds 0 i j n (record {
+    AsksWithin = AsksNear n i j;
+    keep = keep-by_one n;
+    positive = omega arith;
+    begins = λ t places slot now held named.
         record { named = named; near = distance-lt n (grant_of places j 0) i (now.pointing.grant j (now.within.ports i i_in 0 j Uni named)) };
     some = λ places most rows pointing within asks. let near = asks.near in omega (arith, near);
-    falls = λ t places slot most now alone left asks later on.
-        record { named = on i i_in asks.named left; near = comes-nearer i j t i_in places slot most now alone left asks };
-  }
+    falls = λ t places slot most now held left asks later follow on.
+        let window : IsWindowSlotBy MoveByOne n rounds t 0 places slot = record {
+          pointing = now.pointing;
+          decided = now.decided;
+          within = now.within;
+          clean = held.0;
+        } in
+        record { named = on i i_in asks.named left; near = comes-nearer i j t i_in places slot most window held.1 left asks };
+  })
 
 -- ---- the rows of fifo are such rows: an input's one queue has one first cell
 module _ (job : JobValue) (t : ℕ) (by : queueing_of job.settings.discipline ≡ ByInput) where
@@ -114,6 +125,10 @@ waits-fifo job t traffic good is =
     let each : (u : ℕ) → IsSlotBy MoveByOne n rounds u (rows_in job u) (places_in job u) (slot_of job u).decision =
     λ u. IsSlotBy-moved MoveByOne n rounds u (rows_in job u) (places_in job u) (slot_of job u).decision (slot-moved job traffic scheduled named AreMoved moving u)
     (λ first_match moved. (moved, ask-for_one job u (ap queueing_of is))) in
-    let below = longest_by_falling MoveByOne n rounds 0 0 n (AsksNear n) (places_in job 0) (slots_in job 0 t) (keep-by_one n) traffic.some
-    (one-falling n rounds some) (slots-window job traffic scheduled named MoveByOne each t) (slots-alone job traffic scheduled t) in
+    let so = unicast_in MoveByOne n rounds 0 0 (places_in job 0) (slots_in job 0 t) (record {
+      window = slots-window job traffic scheduled named MoveByOne each t;
+      alone = slots-alone job traffic scheduled t;
+    }) in
+    let below = longest_wait-below n 0 n (map noted_of (slots_in job 0 t)) traffic.some
+    (λ i j i_in j_in. (one-bound n rounds some i j i_in).waits 0 (places_in job 0) (slots_in job 0 t) so) in
     subst (λ (wait : ℕ). wait < n) (sym (wait-told job traffic scheduled t)) below
