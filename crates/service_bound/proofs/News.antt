@@ -82,17 +82,22 @@ NotesSlot-kept n slots slot i level queues within same noted =
       is_false true not_so = absurd (not_so refl)
       is_false false not_so = refl
 
--- two matches with the same parts leave the same queues waiting
-pub waiting-by_parts : (n : ℕ) (rows : List Row) (one other : List (Option Fed)) (parts : List (Option Served)) → HasParts n one parts → HasParts n other parts
-    → (i j level : ℕ) → i < n
+-- two matches have the same parts
+record HaveSameParts (n : ℕ) (one other : List (Option Fed)) : Type 0 where
+  parts : List (Option Served)
+  of_one : HasParts n one parts
+  of_other : HasParts n other parts
+
+-- so they leave the same queues waiting
+waiting-by_parts : (n : ℕ) (rows : List Row) (one other : List (Option Fed)) → HaveSameParts n one other → (i j level : ℕ) → i < n
     → is_waiting (record { rows = rows; matched = one }) i j level ≡ is_waiting (record { rows = rows; matched = other }) i j level
-waiting-by_parts n rows one other parts has_one has_other i j level inside =
-    let part = slice_index_or parts i None in
-    let gives : (matched : List (Option Fed)) → HasParts n matched parts → Gives part j level Uni ↔ Serves matched i j level Uni =
+waiting-by_parts n rows one other same i j level inside =
+    let part = slice_index_or same.parts i None in
+    let gives : (matched : List (Option Fed)) → HasParts n matched same.parts → Gives part j level Uni ↔ Serves matched i j level Uni =
     λ matched has. Gives-iff_serves matched i j level Uni part (part_is_free n matched i part has.whole (has.each i inside))
     (part_serves n matched i part has.whole (has.each i inside)) in
-    let first = gives one has_one in
-    let second = gives other has_other in
+    let first = gives one same.of_one in
+    let second = gives other same.of_other in
     let waits = is_waiting (record { rows = rows; matched = one }) i j level in
     same_from_decides waits (is_waiting (record { rows = rows; matched = other }) i j level)
     (Decides-like waits (λ p. (p.0, λ s. p.1 (first.0 (second.1 s)))) (λ p. (p.0, λ s. p.1 (second.0 (first.1 s))))
@@ -119,7 +124,7 @@ module _ (old new : Meter) (rows : List Row) (parts : List (Option Served)) (new
       let slot : NotedSlot = record { rows = rows; matched = matched } in
       let before = kept.0 in
       let was = kept.2 in
-      let notes : (place : ℕ) → place < length old.queues
+      let queues : (place : ℕ) → place < length old.queues
       → NotesSlot old.count (λ j. is_waiting slot (place / LEVELS) j (place % LEVELS)) (queues_at old.queues place) (queues_at new.queues place) =
       λ place inside.
       let i = place / LEVELS in
@@ -132,7 +137,7 @@ module _ (old new : Meter) (rows : List Row) (parts : List (Option Served)) (new
         | inr lacks ↦
             let here : place_of i level ≡ place = omega arith in
             let same : (j : ℕ) → is_waiting slot i j level ≡ was_waiting before i j level =
-            λ j. waiting-by_parts old.ports rows matched kept.1 parts has kept.3 i j level i_in
+            λ j. waiting-by_parts old.ports rows matched kept.1 (record { parts = parts; of_one = has; of_other = kept.3 }) i j level i_in
             ∙ kept.4 i j level i_in level_in (λ h. lacks ((both i).1 (h, (members i).1 i_in))) in
             rw (others place lacks)
             (subst (λ c. NotesSlot c (λ j. is_waiting slot i j level) (queues_at old.queues place) (queues_at old.queues place)) (sym was.count)
@@ -140,7 +145,7 @@ module _ (old new : Meter) (rows : List Row) (parts : List (Option Served)) (new
             (λ j waits. within.ports i i_in level j Uni ((Decides-waiting slot i j level).0 waits).0) same
             (subst (λ p. HaveNoted old.ports before i level (queues_at old.queues p)) here (was.queues i level i_in level_in))))
       ] in
-      HasNoted-more old new slots slot ports count long notes within has_noted
+      HasNoted-more old new slots slot (record { ports = ports; count = count; long = long; queues = queues }) within has_noted
 
   pub some-noted : (slots : List NotedSlot) × HasNoted new slots
   some-noted = (kept.0 ++ record { rows = rows; matched = kept.1 } ∷ [], HasNoted-news kept.0 kept.1 kept.2 kept.3)

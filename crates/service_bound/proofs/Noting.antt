@@ -78,37 +78,6 @@ HaveNoted-first n i level =
       longest = omega arith;
     }
 
--- after a slot more
-HaveNoted-more : (n : ℕ) (slots : List NotedSlot) (slot : NotedSlot) (i level : ℕ) (old new : Queues) → n ≤ MAX_PORTS
-    → ((j : ℕ) → is_waiting slot i j level ≡ true → j < n) → HaveNoted n slots i level old → NotesSlot (length slots) (λ j. is_waiting slot i j level) old new
-    → HaveNoted n (slots ++ slot ∷ []) i level new
-HaveNoted-more n slots slot i level old new size within before notes =
-    let more : length (slots ++ slot ∷ []) ≡ length slots + 1 = length-append slots (slot ∷ []) in
-    let waits : (j : ℕ) → j < n → wait_at new (length slots + 1) j ≡ wait_after (slots ++ slot ∷ []) i j level = λ j below. notes.waits j
-    ∙ ap (λ wait. cond (is_waiting slot i j level) (wait + 1) 0) (before.waits j below) ∙ sym (wait_after-more slots slot i j level) in
-    let long : length new.began ≡ MAX_PORTS = notes.long ∙ before.long in
-    let among : (j : ℕ) → Has new.waiting j → j < n = λ j has. within j (notes.among j has) in
-    let rests : (j : ℕ) → n ≤ j → wait_at new (length slots + 1) j ≡ 0 =
-    λ j beyond. wait_at-rests new (length slots + 1) j (λ has. let below = among j has in omega arith) in
-    let running : longest_of new.began new.waiting (length slots + 1) ≡ greatest (map (λ j. wait_after (slots ++ slot ∷ []) i j level) (range_with_len 0 n)) =
-    ap (λ m. greatest (map (wait_at new (length slots + 1)) (range_with_len 0 m))) long
-    ∙ greatest-beyond (wait_at new (length slots + 1)) n MAX_PORTS size rests
-    ∙ greatest-same (wait_at new (length slots + 1)) (λ j. wait_after (slots ++ slot ∷ []) i j level) n waits in
-    let old_all = greatest-flat_map (λ j. waits_from 0 slots i j level) (range_with_len 0 n) in
-    let new_all = greatest-flat_map (λ j. waits_from 0 (slots ++ slot ∷ []) i j level) (range_with_len 0 n) in
-    let joined = greatest-max (λ j. greatest (waits_from 0 slots i j level)) (λ j. wait_after (slots ++ slot ∷ []) i j level)
-    (λ j. greatest (waits_from 0 (slots ++ slot ∷ []) i j level)) n (λ j below. greatest-more_waits slots slot i j level) in
-    let longest : longest_at new (length slots + 1) ≡ greatest (flat_map (λ j. waits_from 0 (slots ++ slot ∷ []) i j level) (range_with_len 0 n)) =
-    notes.longest ∙ ap (λ x. max x (longest_of new.began new.waiting (length slots + 1))) (before.longest ∙ old_all)
-    ∙ ap (λ x. max (greatest (map (λ j. greatest (waits_from 0 slots i j level)) (range_with_len 0 n))) x) running ∙ joined ∙ sym new_all in
-    record {
-      long = long;
-      begun = rw more notes.begun;
-      among = among;
-      waits = λ j below. subst (λ count. wait_at new count j ≡ wait_after (slots ++ slot ∷ []) i j level) (sym more) (waits j below);
-      longest = rw more longest;
-    }
-
 -- ---- all queues
 -- what an index found is at its place
 pub found_is : (all : List Queues) (place : ℕ) (found : Queues) → place < length all → found ≡ slice_index_or all place found → found ≡ queues_at all place
@@ -132,43 +101,86 @@ HasNoted-first n some size = record {
       (HaveNoted-first n i level);
 }
 
-pub HasNoted-within : (old new : Meter) (slots : List NotedSlot) (slot : NotedSlot) → new.ports ≡ old.ports → new.count ≡ old.count + 1
-    → length new.queues ≡ length old.queues
-    → ((place : ℕ) → place < length old.queues
-    → NotesSlot old.count (λ j. is_waiting slot (place / LEVELS) j (place % LEVELS)) (queues_at old.queues place) (queues_at new.queues place))
-    → ((i j level : ℕ) → i < old.ports → level < LEVELS → is_waiting slot i j level ≡ true → j < old.ports)
-    → HasNoted old slots → HasNoted new (slots ++ slot ∷ [])
-HasNoted-within old new slots slot ports count long notes within noted =
-    let old_count = noted.count in
-    let old_long = noted.long in
-    record {
-      some = let some = noted.some in omega arith;
-      size = let size = noted.size in omega arith;
-      count = omega (arith, length-append slots (slot ∷ []));
-      long = omega arith;
-      queues = λ i level i_in level_in.
-          let place = place_of i level in
-          let inside : i < old.ports = omega arith in
-          let row : place / LEVELS ≡ i = omega arith in
-          let column : place % LEVELS ≡ level = omega arith in
-          let Notes : ℕ → ℕ → ℕ → Type 0 = λ c r l. NotesSlot c (λ j. is_waiting slot r j l) (queues_at old.queues place) (queues_at new.queues place) in
-          let here : Notes (length slots) i level =
-          subst (λ c. Notes c i level) old_count
-          (subst (λ l. Notes old.count i l) column (subst (λ r. Notes old.count r (place % LEVELS)) row (notes place (omega arith)))) in
-          subst (λ n. HaveNoted n (slots ++ slot ∷ []) i level (queues_at new.queues place)) (sym ports)
-          (HaveNoted-more old.ports slots slot i level (queues_at old.queues place) (queues_at new.queues place) noted.size
-          (λ j waits. within i j level inside level_in waits) (noted.queues i level inside level_in) here);
-    }
+-- what one slot more makes of a meter
+pub record MeterNotes (old new : Meter) (slot : NotedSlot) : Type 0 where
+  pub ports : new.ports ≡ old.ports
+  pub count : new.count ≡ old.count + 1
+  pub long : length new.queues ≡ length old.queues
+  pub queues : (place : ℕ) → place < length old.queues
+      → NotesSlot old.count (λ j. is_waiting slot (place / LEVELS) j (place % LEVELS)) (queues_at old.queues place) (queues_at new.queues place)
+
+module _ (old new : Meter) (slots : List NotedSlot) (slot : NotedSlot) (notes : MeterNotes old new slot)
+    (within : (i j level : ℕ) → i < old.ports → level < LEVELS → is_waiting slot i j level ≡ true → j < old.ports) (noted : HasNoted old slots) where
+  more : length (slots ++ slot ∷ []) ≡ length slots + 1
+  more = length-append slots (slot ∷ [])
+
+  -- the queues of one input at a level note the slot
+  notes_at : (i level : ℕ) → i < old.ports → level < LEVELS
+      → NotesSlot (length slots) (λ j. is_waiting slot i j level) (queues_at old.queues (place_of i level)) (queues_at new.queues (place_of i level))
+  notes_at i level inside level_in =
+      let place = place_of i level in
+      let old_long = noted.long in
+      let row : place / LEVELS ≡ i = omega arith in
+      let column : place % LEVELS ≡ level = omega arith in
+      let Notes : ℕ → ℕ → ℕ → Type 0 = λ c r l. NotesSlot c (λ j. is_waiting slot r j l) (queues_at old.queues place) (queues_at new.queues place) in
+      subst (λ c. Notes c i level) noted.count
+      (subst (λ l. Notes old.count i l) column (subst (λ r. Notes old.count r (place % LEVELS)) row (notes.queues place (omega arith))))
+
+  -- and stand as after it
+  queues_more : (i level : ℕ) → i < old.ports → level < LEVELS
+      → HaveNoted old.ports (slots ++ slot ∷ []) i level (queues_at new.queues (place_of i level))
+  queues_more i level inside level_in =
+      let n = old.ports in
+      let queues = queues_at new.queues (place_of i level) in
+      let before = noted.queues i level inside level_in in
+      let now = notes_at i level inside level_in in
+      let waits : (j : ℕ) → j < n → wait_at queues (length slots + 1) j ≡ wait_after (slots ++ slot ∷ []) i j level = λ j below. now.waits j
+      ∙ ap (λ wait. cond (is_waiting slot i j level) (wait + 1) 0) (before.waits j below) ∙ sym (wait_after-more slots slot i j level) in
+      let long : length queues.began ≡ MAX_PORTS = now.long ∙ before.long in
+      let among : (j : ℕ) → Has queues.waiting j → j < n = λ j has. within i j level inside level_in (now.among j has) in
+      let rests : (j : ℕ) → n ≤ j → wait_at queues (length slots + 1) j ≡ 0 =
+      λ j beyond. wait_at-rests queues (length slots + 1) j (λ has. let below = among j has in omega arith) in
+      let running : longest_of queues.began queues.waiting (length slots + 1)
+      ≡ greatest (map (λ j. wait_after (slots ++ slot ∷ []) i j level) (range_with_len 0 n)) =
+      ap (λ m. greatest (map (wait_at queues (length slots + 1)) (range_with_len 0 m))) long
+      ∙ greatest-beyond (wait_at queues (length slots + 1)) n MAX_PORTS noted.size rests
+      ∙ greatest-same (wait_at queues (length slots + 1)) (λ j. wait_after (slots ++ slot ∷ []) i j level) n waits in
+      let old_all = greatest-flat_map (λ j. waits_from 0 slots i j level) (range_with_len 0 n) in
+      let new_all = greatest-flat_map (λ j. waits_from 0 (slots ++ slot ∷ []) i j level) (range_with_len 0 n) in
+      let joined = greatest-max (λ j. greatest (waits_from 0 slots i j level)) (λ j. wait_after (slots ++ slot ∷ []) i j level)
+      (λ j. greatest (waits_from 0 (slots ++ slot ∷ []) i j level)) n (λ j below. greatest-more_waits slots slot i j level) in
+      let longest : longest_at queues (length slots + 1) ≡ greatest (flat_map (λ j. waits_from 0 (slots ++ slot ∷ []) i j level) (range_with_len 0 n)) =
+      now.longest ∙ ap (λ x. max x (longest_of queues.began queues.waiting (length slots + 1))) (before.longest ∙ old_all)
+      ∙ ap (λ x. max (greatest (map (λ j. greatest (waits_from 0 slots i j level)) (range_with_len 0 n))) x) running ∙ joined ∙ sym new_all in
+      record {
+        long = long;
+        begun = rw more now.begun;
+        among = among;
+        waits = λ j below. subst (λ count. wait_at queues count j ≡ wait_after (slots ++ slot ∷ []) i j level) (sym more) (waits j below);
+        longest = rw more longest;
+      }
+
+  pub HasNoted-within : HasNoted new (slots ++ slot ∷ [])
+  HasNoted-within =
+      let old_count = noted.count in
+      let old_long = noted.long in
+      let ports = notes.ports in
+      record {
+        some = let some = noted.some in omega arith;
+        size = let size = noted.size in omega arith;
+        count = omega (arith, notes.count, more);
+        long = omega (arith, notes.long);
+        queues = λ i level i_in level_in.
+            subst (λ n. HaveNoted n (slots ++ slot ∷ []) i level (queues_at new.queues (place_of i level))) (sym ports)
+            (queues_more i level (omega arith) level_in);
+      }
 
 -- where the rows name none but the ports
-pub HasNoted-more : (old new : Meter) (slots : List NotedSlot) (slot : NotedSlot) → new.ports ≡ old.ports → new.count ≡ old.count + 1
-    → length new.queues ≡ length old.queues
-    → ((place : ℕ) → place < length old.queues
-    → NotesSlot old.count (λ j. is_waiting slot (place / LEVELS) j (place % LEVELS)) (queues_at old.queues place) (queues_at new.queues place))
-    → AreWithin old.ports slot.rows → HasNoted old slots → HasNoted new (slots ++ slot ∷ [])
-HasNoted-more old new slots slot ports count long notes within noted =
-    HasNoted-within old new slots slot ports count long notes
-    (λ i j level inside level_in waits. within.ports i inside level j Uni ((Decides-waiting slot i j level).0 waits).0) noted
+pub HasNoted-more : (old new : Meter) (slots : List NotedSlot) (slot : NotedSlot) → MeterNotes old new slot → AreWithin old.ports slot.rows → HasNoted old slots
+    → HasNoted new (slots ++ slot ∷ [])
+HasNoted-more old new slots slot notes within =
+    HasNoted-within old new slots slot notes
+    (λ i j level inside level_in waits. within.ports i inside level j Uni ((Decides-waiting slot i j level).0 waits).0)
 
 -- the longest wait of a level is the longest of its queues
 pub longest-noted : (meter : Meter) (slots : List NotedSlot) (level : ℕ) → HasNoted meter slots → level < LEVELS

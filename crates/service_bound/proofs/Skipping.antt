@@ -13,7 +13,7 @@ use Rattle.eslip_rounds.specs.Decisions.{is_fed}
 use Rattle.service_bound.specs.Waits.{NotedSlot, is_waiting, NoneWaits}
 use Rattle.service_bound.specs.MeterSteps.{Queues, Meter, place_of, queues_at, NotesSlot, HaveNoted, HasNoted}
 use Rattle.service_bound.proofs.Levels.{wait_at-rests, longest_of-rests, member-false}
-use Rattle.service_bound.proofs.Noting.{HasNoted-within, NotesSlot-along}
+use Rattle.service_bound.proofs.Noting.{MeterNotes, HasNoted-within, NotesSlot-along}
 
 -- queues of which none waits, after a slot in which none waits
 rests-keep : (count : ℕ) (queues : Queues) → ((j : ℕ) → Has queues.waiting j → ⊥) → NotesSlot count (λ j. false) queues queues
@@ -29,14 +29,19 @@ rests-keep count queues none =
     }
 
 -- a meter after a slot in which none waits
-noted-idle : (old new : Meter) (slots : List NotedSlot) (slot : NotedSlot) → new.ports ≡ old.ports → new.count ≡ old.count + 1
-    → length new.queues ≡ length old.queues
-    → ((place : ℕ) → place < length old.queues → NotesSlot old.count (λ j. false) (queues_at old.queues place) (queues_at new.queues place))
-    → NoneWaits slot → HasNoted old slots → HasNoted new (slots ++ slot ∷ [])
-noted-idle old new slots slot ports count long notes none noted =
-    HasNoted-within old new slots slot ports count long
-    (λ place inside. NotesSlot-along old.count (λ j. false) (λ j. is_waiting slot (place / LEVELS) j (place % LEVELS)) (queues_at old.queues place)
-    (queues_at new.queues place) (λ j. sym (none (place / LEVELS) j (place % LEVELS))) (notes place inside))
+noted-idle : (old : Meter) (queues : List Queues) (slots : List NotedSlot) (slot : NotedSlot) → length queues ≡ length old.queues
+    → ((place : ℕ) → place < length old.queues → NotesSlot old.count (λ j. false) (queues_at old.queues place) (queues_at queues place))
+    → NoneWaits slot → HasNoted old slots → HasNoted (record { ports = old.ports; count = old.count + 1; queues = queues }) (slots ++ slot ∷ [])
+noted-idle old queues slots slot long notes none noted =
+    let new : Meter = record { ports = old.ports; count = old.count + 1; queues = queues } in
+    let all : MeterNotes old new slot = record {
+      ports = refl;
+      count = refl;
+      long = long;
+      queues = λ place inside. NotesSlot-along old.count (λ j. false) (λ j. is_waiting slot (place / LEVELS) j (place % LEVELS)) (queues_at old.queues place)
+          (queues_at queues place) (λ j. sym (none (place / LEVELS) j (place % LEVELS))) (notes place inside);
+    } in
+    HasNoted-within old new slots slot all
     (λ i j level inside level_in waits. let idle = none i j level in absurd (false_true (sym idle ∙ waits))) noted where
       false_true : false ≡ true → ⊥
       false_true e = cc
@@ -60,7 +65,7 @@ more_rest meter slots [] rest none noted = record {
 }
 more_rest meter slots (slot ∷ more) rest none noted =
     let next = at_count meter (meter.count + 1) in
-    let one = noted-idle meter next slots slot refl refl refl
+    let one = noted-idle meter meter.queues slots slot refl
     (λ place inside. rests-keep meter.count (queues_at meter.queues place) (λ j. rest place j inside)) (none 0 slot (omega arith)) noted in
     let all = more_rest next (slots ++ slot ∷ []) more rest (λ k d inside. none (suc k) d (omega arith)) one in
     subst (λ count. HasNoted (at_count meter count) (slots ++ slot ∷ more)) (omega arith)
@@ -74,7 +79,7 @@ pub HasNoted-none : (old : Meter) (queues : List Queues) (before more : List Not
 HasNoted-none old queues before [] long notes some none noted = absurd (omega arith)
 HasNoted-none old queues before (slot ∷ more) long notes some none noted =
     let first : Meter = record { ports = old.ports; count = old.count + 1; queues = queues } in
-    let one = noted-idle old first before slot refl refl long notes (none 0 slot (omega arith)) noted in
+    let one = noted-idle old queues before slot long notes (none 0 slot (omega arith)) noted in
     let rest : (place j : ℕ) → place < length queues → Has (queues_at queues place).waiting j → ⊥ =
     λ place j inside has. let waits : false ≡ true = (notes place (omega arith)).among j has in absurd (cc) in
     let all = more_rest first (before ++ slot ∷ []) more rest (λ k d inside. none (suc k) d (omega arith)) one in
