@@ -152,8 +152,9 @@ module _ (n t level : ℕ) (rows : List Row) (first : List (Option Fed)) (places
       quiet_served n t level rows first places level_in opening pointing j granted.output_in (IsQuietFor-clean n level j rows clean alone) h h_in granted
 
   -- an output whose grant is refused serves nobody as unicast of the level
-  pub refused : (h j y : ℕ) → h < n → j < n → Grants n t rows places (unmatched n) h j level Uni
+  pub refused : (h j y : ℕ) → Grants n t rows places (unmatched n) h j level Uni
       → IsFirstFrom n (accept_of places h level) (λ k. Grants n t rows places (unmatched n) h k level Uni) y → (y ≡ j → ⊥) → (x : ℕ)
       → Serves first x j level Uni → ⊥
-  refused h j y h_in j_in =
-      quiet_refused n t level rows first places level_in opening pointing j j_in (IsQuietFor-clean n level j rows clean alone) h y h_in
+  refused h j y granted =
+      quiet_refused n t level rows first places level_in opening pointing j granted.output_in (IsQuietFor-clean n level j rows clean alone) h y
+      granted.first.below granted

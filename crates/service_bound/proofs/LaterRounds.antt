@@ -35,16 +35,20 @@ second_of n t rows places (step ∷ second ∷ steps) more chain =
     let later : AreRounds n t rows places step (second ∷ steps) = chain.1 in
     (second, later.0, AreRounds-keep n t rows places second steps later.1)
 
+-- inputs that one match has as unicast have no pairs in the other that the one has not
+abbrev pub GetNoMore : List (Option Fed) → List (Option Fed) → Type 0
+GetNoMore first matched = (i j y level other : ℕ) (kind : Kind) → Serves first i j level Uni → Serves matched i y other kind → Serves first i y other kind
+
 -- The slot begins with a first round, of which the pairs stay and the unicast inputs get no other pairs.
 pub record BeginsWith (n t : ℕ) (rows : List Row) (places : Places) (first matched : List (Option Fed)) : Type 0 where
   pub opening : IsRound n t rows places (unmatched n) first
   pub stays : (i j level : ℕ) (kind : Kind) → Serves first i j level kind → Serves matched i j level kind
-  pub no_more : (i j y level other : ℕ) (kind : Kind) → Serves first i j level Uni → Serves matched i y other kind → Serves first i y other kind
+  pub no_more : GetNoMore first matched
 
 module _ (n t : ℕ) (rows : List Row) (places : Places) where
   -- an input that is matched as unicast is free in no later round, and does not go on
   AreRounds-no_more : (before : List (Option Fed)) (steps : List (List (Option Fed))) → AreRounds n t rows places before steps
-      → (i j y level other : ℕ) (kind : Kind) → Serves before i j level Uni → Serves (last_of before steps) i y other kind → Serves before i y other kind
+      → GetNoMore before (last_of before steps)
   AreRounds-no_more before [] chain i j y level other kind served later = later
   AreRounds-no_more before (step ∷ steps) chain i j y level other kind served later =
       let stays : Serves step i j level Uni = (chain.0.pairs i j level Uni).1 (inl served) in

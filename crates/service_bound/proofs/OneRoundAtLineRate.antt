@@ -250,7 +250,7 @@ module _ (n level : ℕ) (turn : Turn n level) (later : List Row) (i j : ℕ) (a
             ]
         | inr other ↦
             let nobody = refused n turn.t level turn.rows turn.first turn.before turn.level_in opening turn.pointing rate.clean rate.alone asked.now j met.0
-            asked.nearest.below asked.output granted met.1 other in
+            granted met.1 other in
             elim lower [
               | inl now ↦ from_alone now.base met.0 nobody met.2 at_most asks now
               | inr late ↦ inl (from_beside late.1.base met.0 nobody met.2 at_most asks late.0 late.1 (beside_nearest late.0 late.1))

@@ -226,7 +226,8 @@ module _ (n t level : ℕ) (rows : List Row) (first matched : List (Option Fed))
               omega (arith, e, full, slot.more)
         ] in
         let closer : distance n (grant_of after j level) i < distance n (grant_of before j level) i = rw place (omega (arith, passed)) in
-        let lower = twice_rank-far_twice n (distances_of n level after i j i) (distances_of n level before i j g) closer (omega arith) no_fresher slot.more some in
+        let lower = twice_rank-far_twice n (distances_of n level after i j i) (distances_of n level before i j g) closer (omega arith) no_fresher
+        slot.more some in
         record { input = i; input_in = request.input_in; asks = request.on i request.input_in request.named request.left; lower = inl lower }
 
     -- from rows of either class
@@ -243,7 +244,7 @@ module _ (n t level : ℕ) (rows : List Row) (first matched : List (Option Fed))
         let asked = (first_granted n t rows before level slot.level_in slot.clean Uni first_kind h met.0 met.1.member).member in
         let refuses : (met.0 ≡ j → ⊥) → (x : ℕ) → Serves first x j level Uni
         → ⊥ = λ other. refused n t level rows first before slot.level_in slot.begins.opening slot.pointing slot.clean slot.alone h j met.0
-        nearest.1.below request.output_in granted met.1 other in
+        granted met.1 other in
         elim lower [
           | inl now ↦
               let own : h ≡ i = now.only h nearest.1.below nearest.1.member in

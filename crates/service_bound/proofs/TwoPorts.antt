@@ -196,7 +196,7 @@ module _ (rounds level i j : ℕ) (two : 1 < rounds) (i_in : i < 2) where
     falls_where_refused h y nearest granted accepted served other =
         let h_in = nearest.below in
         let y_in = accepted.below in
-        let nobody = refused 2 t level slot.rows First places level_in begins.opening now.pointing now.clean alone h j y h_in j_in granted accepted other in
+        let nobody = refused 2 t level slot.rows First places level_in begins.opening now.pointing now.clean alone h j y granted accepted other in
         elim (cases_eq h i) [
           | inl same ↦
               let stays = moved.grant_stays j level nobody in
