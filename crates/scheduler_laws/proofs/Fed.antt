@@ -13,24 +13,27 @@ use Rattle.eslip_rounds.specs.Schedulers.{Scheduler, IsSchedulerBy, IsScheduler}
 use Rattle.service_bound.proofs.Postings.{Posting, IsPosted, rows_of, posted, names, AreWithin-rows}
 use Rattle.scheduler_laws.specs.FedSlots.{AreFed, waiting}
 use Rattle.scheduler_laws.specs.Growth.{cycle, growing, GrowsForEver}
-use Rattle.scheduler_laws.proofs.GrowingTurns.{input_at, output_at, pair_at}
+use Rattle.scheduler_laws.proofs.GrowingTurns.{input_at, output_at}
 use Rattle.scheduler_laws.proofs.OneSlot.{IsAsked, AskFor, MovePairs}
 use Rattle.scheduler_laws.proofs.Queues.{waiting_is, waits_asked}
-use Rattle.scheduler_laws.proofs.Runs.{AreGoing, AskInTurn, going_on}
+use Rattle.scheduler_laws.proofs.Runs.{AreGoing, AskInTurn, KeepAsking, going_on}
 
--- what waits in slot t, where so much has left, is what asks in turn
-waiting_asked : (n m t : ℕ) (places : Places) (slots : List DecidedSlot) → 1 < n → 0 < m → AreGoing n places slots t → (i j : ℕ) → i < n → j < n
+-- in slot t the queues have cells whose pairs ask in turn
+abbrev WaitInTurn : ℕ → ℕ → List DecidedSlot → ℕ → Type 0
+WaitInTurn n m slots t = (i j : ℕ) → i < n → j < n
     → (0 < waiting (growing n m) slots i j t) ↔ IsAsked (input_at n (t % cycle n)) (output_at n (t % cycle n)) i j
+
+-- they do, where so much has left
+waiting_asked : (n m t : ℕ) (places : Places) (slots : List DecidedSlot) → 1 < n → 0 < m → AreGoing n places slots t → WaitInTurn n m slots t
 waiting_asked n m t places slots more some going i j i_in j_in =
     let a : ℕ = input_at n (t % cycle n) in
     let b : ℕ = output_at n (t % cycle n) in
     let same = waiting_is n m t slots more some i j (going.left i j i_in j_in) in
-    subst (λ w. (0 < w) ↔ IsAsked a b i j) (sym same) (waits_asked n m t a b i j i_in j_in (pair_at n (t % cycle n) (omega arith)))
+    subst (λ w. (0 < w) ↔ IsAsked a b i j) (sym same) (waits_asked n m t i j more i_in j_in)
 
 -- slots that the traffic feeds ask in turn
-asks_in_turn : (n m k : ℕ) (places : Places) (slots : List DecidedSlot) (slot : DecidedSlot) → 1 < n → 0 < m → AreFed n (growing n m) slots
-    → slice_get slots k ≡ Some slot → AreGoing n places slots k → AskInTurn n k slot
-asks_in_turn n m k places slots slot more some fed there going i j level kind i_in j_in =
+asks_in_turn : (n m : ℕ) (places : Places) (slots : List DecidedSlot) → 1 < n → 0 < m → AreFed n (growing n m) slots → KeepAsking n places slots
+asks_in_turn n m places slots more some fed k slot there going i j level kind i_in j_in =
     let asks = fed.asks k i j level kind slot there i_in j_in in
     let waits = waiting_asked n m k places slots more some going i j i_in j_in in (
       λ named. let is = asks.0 named in (is.0, is.1, waits.0 is.2),
@@ -154,6 +157,6 @@ module _ (Moves : Moving) (pairs : MovePairs Moves) (scheduler : Scheduler) (by 
       fed = λ count. (run 0 places count, schedule-run count 0 places at_ports ports, feeds count, length-run count 0 places);
       grows = λ slots schedule fed t below.
           let before = going_on Moves pairs n rounds places slots (omega arith) pointing some_rounds schedule fed.within
-          (λ k slot there before. asks_in_turn n m k places slots slot (omega arith) some fed there before) t (omega arith) in
+          (asks_in_turn n m places slots (omega arith) some fed) t (omega arith) in
           waiting_is n m t slots (omega arith) some 0 0 (before.left 0 0 (omega arith) (omega arith));
     }

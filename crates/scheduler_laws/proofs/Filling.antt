@@ -27,7 +27,7 @@ use Rattle.service_bound.proofs.InWindows.{pointing_by, AreMoved-keep}
 use Rattle.scheduler_laws.specs.FullLoad.{IsFullLoad, IsFullyLoaded, IsFullMatch, IsFullSlot}
 use Rattle.scheduler_laws.proofs.Counts.{count_full, length-last, first_added}
 use Rattle.scheduler_laws.proofs.Pigeons.{Covers, Covers-from_once}
-use Rattle.scheduler_laws.proofs.Parking.{IsStep, IsSpread, IsSpread-first, IsSpread-next, all_taken, apart_at_last}
+use Rattle.scheduler_laws.proofs.Parking.{IsStep, IsSpread, AreApart, IsSpread-first, IsSpread-next, all_taken, apart_at_last}
 
 -- the grant pointers of the level
 abbrev pub grants_of : Places → ℕ → ℕ → ℕ
@@ -36,10 +36,6 @@ grants_of places level j = grant_of places j level
 -- input i takes output j in a slot's first round, of which this is the match
 abbrev pub Takes : ℕ → List (Option Fed) → ℕ → ℕ → Type 0
 Takes level first i j = Serves first i j level Uni
-
--- no two pointers are together
-abbrev pub AreApart : ℕ → (ℕ → ℕ) → Type 0
-AreApart n g = (j k : ℕ) → j < n → k < n → (j ≡ k → ⊥) → g j ≡ g k → ⊥
 
 module _ (n t level : ℕ) (rows : List Row) (places : Places) (first : List (Option Fed)) (opening : IsRound n t rows places (unmatched n) first)
     (pointing : ArePointing n level places) (within : AreWithin n rows) (load : IsFullLoad n level rows) where
@@ -176,25 +172,54 @@ module _ (n rounds t level : ℕ) (some : 0 < rounds) (places : Places) (slot : 
         first = added ∙ (count_full first_here (fed_each n level first_here at_first first_size) ∙ first_size);
       }
 
--- slots that come after s others, of which the first m may have outputs that nothing feeds
-filled_after : (n rounds level : ℕ) → 0 < rounds → (s m t : ℕ) (places : Places) (slots : List DecidedSlot) → n ≤ m + s + 1
-    → IsSpread n s (grants_of places level) → IsFullyLoaded n rounds t level places slots → All (IsFullSlot n level) (drop m slots)
-filled_after n rounds level some s zero t places [] late spread loaded = All-nil (IsFullSlot n level)
-filled_after n rounds level some s (suc m) t places [] late spread loaded = All-nil (IsFullSlot n level)
-filled_after n rounds level some s zero t places (slot ∷ slots) late spread loaded =
-    let apart = apart_at_last n s (grants_of places level) (omega arith) loaded.pointing.grant spread in
+-- Slots of full load, before which as many as `spent` have spread the pointers.
+pub record AreSpreading (n rounds level : ℕ) (slots : List DecidedSlot) : Type 0 where
+  pub spent : ℕ
+  pub t : ℕ
+  pub places : Places
+  pub some : 0 < rounds
+  pub spread : IsSpread n spent (grants_of places level)
+  pub loaded : IsFullyLoaded n rounds t level places slots
+
+-- after the first of them
+abbrev pub spread_on : (n rounds level : ℕ) (slot : DecidedSlot) (slots : List DecidedSlot) → AreSpreading n rounds level (slot ∷ slots)
+    → AreSpreading n rounds level slots
+spread_on n rounds level slot slots on = record {
+  spent = on.spent + 1;
+  t = on.t + 1;
+  places = slot.decision.places;
+  some = on.some;
+  spread = spread_later n rounds on.t level on.some on.places slot slots on.loaded on.spent on.spread;
+  loaded = loaded_later n rounds on.t level on.some on.places slot slots on.loaded;
+}
+
+-- and before any
+abbrev pub spread_first : (n rounds t level : ℕ) (places : Places) (slots : List DecidedSlot) → 0 < rounds → IsFullyLoaded n rounds t level places slots
+    → AreSpreading n rounds level slots
+spread_first n rounds t level places slots some loaded = record {
+  spent = 0;
+  t = t;
+  places = places;
+  some = some;
+  spread = IsSpread-first n (grants_of places level) loaded.pointing.grant;
+  loaded = loaded;
+}
+
+-- the first m may have outputs that nothing feeds
+filled_after : (n rounds level m : ℕ) (slots : List DecidedSlot) (on : AreSpreading n rounds level slots) → n ≤ m + on.spent + 1
+    → All (IsFullSlot n level) (drop m slots)
+filled_after n rounds level zero [] on late = All-nil (IsFullSlot n level)
+filled_after n rounds level (suc m) [] on late = All-nil (IsFullSlot n level)
+filled_after n rounds level zero (slot ∷ slots) on late =
+    let apart = apart_at_last n on.spent (grants_of on.places level) (omega arith) on.loaded.pointing.grant on.spread in
     All-cons (IsFullSlot n level) slot slots
-    (IsFullSlot-apart n rounds t level some places slot slots loaded apart)
-    (filled_after n rounds level some (s + 1) zero (t + 1) slot.decision.places slots (omega arith)
-    (spread_later n rounds t level some places slot slots loaded s spread)
-    (loaded_later n rounds t level some places slot slots loaded))
-filled_after n rounds level some s (suc m) t places (slot ∷ slots) late spread loaded =
-    filled_after n rounds level some (s + 1) m (t + 1) slot.decision.places slots (omega arith)
-    (spread_later n rounds t level some places slot slots loaded s spread)
-    (loaded_later n rounds t level some places slot slots loaded)
+    (IsFullSlot-apart n rounds on.t level on.some on.places slot slots on.loaded apart)
+    (filled_after n rounds level zero slots (spread_on n rounds level slot slots on) (omega arith))
+filled_after n rounds level (suc m) (slot ∷ slots) on late =
+    filled_after n rounds level m slots (spread_on n rounds level slot slots on) (omega arith)
 
 -- after the first n - 1 slots every slot is full
 pub filled_at_last : (n rounds t level : ℕ) (places : Places) (slots : List DecidedSlot) → 0 < rounds
     → IsFullyLoaded n rounds t level places slots → All (IsFullSlot n level) (drop (n - 1) slots)
 filled_at_last n rounds t level places slots some loaded =
-    filled_after n rounds level some 0 (n - 1) t places slots (omega arith) (IsSpread-first n (grants_of places level) loaded.pointing.grant) loaded
+    filled_after n rounds level (n - 1) slots (spread_first n rounds t level places slots some loaded) (omega arith)

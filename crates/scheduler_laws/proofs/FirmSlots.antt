@@ -10,7 +10,7 @@ use Rattle.pointer_state.specs.Places.{Places, ArePointing, places_at_first, gra
 use Rattle.eslip_rounds.specs.Slots.{Decision}
 use Rattle.eslip_rounds.specs.Schedules.{DecidedSlot, IsScheduleBy}
 use Rattle.eslip_rounds.proofs.Running.{once_unicast}
-use Rattle.eslip_rounds.proofs.Unique.{IsMatch-slot_by}
+use Rattle.eslip_rounds.proofs.Unique.{IsMatch-slot_by, Serves-named_by}
 use Rattle.service_bound.specs.Windows.{IsClean, IsWithoutMulticast}
 use Rattle.service_bound.proofs.LaterRounds.{first_of, BeginsWith, BeginsWith-slot}
 use Rattle.service_bound.proofs.OneRound.{one_is_first}
@@ -27,8 +27,8 @@ use Rattle.scheduler_laws.proofs.PlannedSlots.{Suits, IsPlaced, AreNear, served_
 use Rattle.scheduler_laws.proofs.Shapes.{nothing}
 use Rattle.scheduler_laws.proofs.NextPlans.{Follows, Starts}
 use Rattle.scheduler_laws.proofs.FedRuns.{fed_at_line_rate}
-use Rattle.scheduler_laws.proofs.PlannedRuns.{IsOneEach, run, length-run, All-run, IsLateBy, IsLateBy-before, IsLateBy-last}
-use Rattle.scheduler_laws.proofs.PlannedRuns.{opens_run, LeadsBy, led, kept_all}
+use Rattle.scheduler_laws.proofs.PlannedRuns.{run, length-run, All-run, IsLateBy, IsLateBy-before, IsLateBy-last}
+use Rattle.scheduler_laws.proofs.PlannedRuns.{opens_run, IsOpening, led, kept_all}
 use Rattle.scheduler_laws.proofs.SecondRounds.{IsSettled, serving_settled, IsSecond, serves_second}
 
 -- what the slot of a plan decides in some rounds
@@ -109,7 +109,9 @@ module _ (rounds n t : ℕ) (places : Places) (p : Plan) (some : 0 < n) (some_ro
   -- it serves the pairs of a plan of these rows, where it serves these and they leave nothing to serve
   serving_by : (q : Plan) → rows_of n q ≡ rows_of n p → ((i j : ℕ) → In i j q.serves → Serves (firm_decided rounds n t places p).matched i j 0 Uni)
       → Each (IsSettled q) (asked q) → IsServing q (firm_decided rounds n t places p).matched
-  serving_by = serving_settled AreMovedByFirm rounds n t places p (firm_decided rounds n t places p) switch now
+  serving_by q same serves = serving_settled n q (firm_decided rounds n t places p).matched whole
+      (λ i j level kind s. subst (λ rows. Names (row_of rows i) level kind j) (sym same)
+      (Serves-named_by AreMovedByFirm n rounds t (rows_of n p) places (firm_decided rounds n t places p) now i j level kind s)) serves
 
   -- where the pointers suit the plan
   pub firm_step_of : IsFirmStep rounds n t places p
@@ -215,28 +217,29 @@ IsServedLast-run rounds n t places ps switch late =
     }
 
 -- what is late from where the first slots lead comes in a schedule at line rate, from all pointers at port 0 on
-pub firm_comes : (rounds n count : ℕ) (ps : List Plan) (after : Places) (rest : List Plan) → IsSwitch n (places_at_first n) → Starts IsOneEach ps
-    → Starts (Follows nothing) ps → LeadsBy n (firm_decided rounds n) 0 (places_at_first n) ps count after rest → IsSwitch n after
+pub firm_comes : (rounds n count : ℕ) (ps : List Plan) (after : Places) (rest : List Plan) → IsOpening n (firm_decided rounds n) ps count after rest
     → IsFirmLate rounds n count after rest
     → (slots : List DecidedSlot) × AreFedAtLineRate n slots × ComesLastByFirmAtLineRate n rounds count slots
     × (length (drop count slots) ≡ length rest)
-firm_comes rounds n count ps after rest switch one first leads later late =
+firm_comes rounds n count ps after rest opening late =
+    let leads = opening.leads in
     let from = places_at_first n in
     let rule = firm_decided rounds n in
     let slots = run n rule 0 from ps in
     let dropped : drop count slots ≡ run n rule count after rest = led n rule from ps count after rest leads in
     let all = kept_all n rule from ps count after rest leads late.run_kept in
-    let served : IsServedLastByFirm n rounds count 0 0 0 after (run n rule count after rest) = IsServedLast-run rounds n count after rest later late in (
+    let served : IsServedLastByFirm n rounds count 0 0 0 after (run n rule count after rest) =
+    IsServedLast-run rounds n count after rest opening.later late in (
       slots,
-      fed_at_line_rate n ps slots (all.fed nothing first),
+      fed_at_line_rate n ps slots (all.fed nothing opening.first),
       record {
-        schedule = IsSchedule-run rounds n 0 from ps switch;
+        schedule = IsSchedule-run rounds n 0 from ps opening.switch;
         within = All-run n rule 0 from (AreWithin n) (AreWithin-rows n) ps;
         kept = all.kept;
         last = subst (λ f. IsServedLastByFirm n rounds count 0 0 0 f (drop count slots)) (sym leads.left)
             (subst (λ s. IsServedLastByFirm n rounds count 0 0 0 after s) (sym dropped) served);
         line_rate = all.line;
-        opens = opens_run n rule 0 from ps one;
+        opens = opens_run n rule 0 from ps opening.one;
       },
       ap length dropped ∙ length-run n rule count after rest,
     )

@@ -219,4 +219,5 @@ module _ (rounds n : ℕ) (some_rounds : 0 < rounds) (ports : 1 < n) (rest : Lis
       with_length rounds n rest P long
       (subst
       (λ c. (slots : List DecidedSlot) × AreFedAtLineRate n slots × ComesLastByFirmAtLineRate n rounds c slots × (length (drop c slots) ≡ length rest)) e
-      (firm_comes rounds n (suc n) (openings 0 n rest) found.0 rest opened.switch one first found.2 turn.switch (late (suc n) found.0 turn)))
+      (firm_comes rounds n (suc n) (openings 0 n rest) found.0 rest
+      (record { switch = opened.switch; one = one; first = first; leads = found.2; later = turn.switch }) (late (suc n) found.0 turn)))

@@ -1,16 +1,17 @@
 -- What a slot of a plan decides in some rounds: the first round serves the pairs of the plan, and moves the pointers; the
 -- second may serve one pair more.
-use Rattle.std.proofs.Common.{◌≡◌, ℕ, ◌+◌, ◌%◌, ◌<◌, ◌∙◌, List, Option, refl, arith}
+use Rattle.std.proofs.Common.{◌≡◌, ℕ, ◌+◌, ◌%◌, ◌<◌, ◌∙◌, List, Option, refl, sym, subst, arith}
 use Rattle.rotating_pick.specs.declared.kinds.Kind.{Kind}
 use Rattle.rotating_pick.specs.declared.kinds.Kind.TheVariants.{Uni}
 use Rattle.slot_match.specs.declared.matching.Fed.{Fed}
+use Rattle.slot_match.specs.Rows.{Names, row_of}
 use Rattle.slot_match.specs.Matches.{Serves, IsMatch}
 use Rattle.pointer_state.specs.Places.{Places, grant_of, accept_of}
 use Rattle.eslip_rounds.specs.Slots.{Decision, AreMoved, IsSlot}
 use Rattle.eslip_rounds.specs.Decisions.{decision_of}
 use Rattle.eslip_rounds.proofs.Running.{once_unicast}
 use Rattle.eslip_rounds.proofs.Settling.{IsSlot-decision_of, AreAtPorts-decision_of}
-use Rattle.eslip_rounds.proofs.Unique.{IsMatch-slot}
+use Rattle.eslip_rounds.proofs.Unique.{IsMatch-slot, Serves-named_by}
 use Rattle.service_bound.proofs.LaterRounds.{first_of, BeginsWith, BeginsWith-slot}
 use Rattle.service_bound.proofs.PostedRuns.{IsSwitch}
 use Rattle.scheduler_laws.proofs.Plans.{In, IsServing, Each, Plan, asked, rows_of, AreWithin-rows}
@@ -77,7 +78,9 @@ module _ (rounds n t : ℕ) (places : Places) (p : Plan) (some : 0 < n) (switch 
   -- it serves no others than the pairs of a plan of these rows, where it serves these and they leave nothing to serve
   pub serving_by : (q : Plan) → rows_of n q ≡ rows_of n p → ((i j : ℕ) → In i j q.serves → Serves (decided_in rounds n t places p).matched i j 0 Uni)
       → Each (IsSettled q) (asked q) → IsServing q (decided_in rounds n t places p).matched
-  serving_by = serving_settled AreMoved rounds n t places p (decided_in rounds n t places p) switch now
+  serving_by q same serves = serving_settled n q (decided_in rounds n t places p).matched whole
+      (λ i j level kind s. subst (λ rows. Names (row_of rows i) level kind j) (sym same)
+      (Serves-named_by AreMoved n rounds t (rows_of n p) places (decided_in rounds n t places p) now i j level kind s)) serves
 
   -- where the pointers suit the plan
   pub many_step_of : IsManyStep rounds n t places p

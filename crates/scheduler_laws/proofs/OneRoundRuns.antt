@@ -11,10 +11,10 @@ use Rattle.scheduler_laws.specs.Reached.{AreFedAtLineRate, ComesLastAtLineRate}
 use Rattle.scheduler_laws.proofs.Plans.{In, Plan, names, AreWithin-rows, IsClean-rows, IsWithoutMulticast-rows}
 use Rattle.scheduler_laws.proofs.PlannedSlots.{decided, IsStep, slot_decided, IsSwitch-after}
 use Rattle.scheduler_laws.proofs.NextPlans.{Follows, Starts}
-use Rattle.scheduler_laws.proofs.PlannedRuns.{IsOneEach, run, length-run, All-run, IsLateBy, IsLateBy-before, IsLateBy-last}
+use Rattle.scheduler_laws.proofs.PlannedRuns.{run, length-run, All-run, IsLateBy, IsLateBy-before, IsLateBy-last}
 use Rattle.scheduler_laws.proofs.FedRuns.{fed_at_line_rate}
 use Rattle.scheduler_laws.proofs.Shapes.{nothing}
-use Rattle.scheduler_laws.proofs.PlannedRuns.{opens_run, LeadsBy, led, kept_all}
+use Rattle.scheduler_laws.proofs.PlannedRuns.{opens_run, IsOpening, led, kept_all}
 
 -- the run is a schedule
 IsSchedule-run : (n t : ℕ) (places : Places) (ps : List Plan) → IsSwitch n places → IsSchedule n 1 t places (run n (decided n) t places ps)
@@ -57,28 +57,27 @@ IsServedLast-run n t places ps switch late =
     }
 
 -- what is late from where the first slots lead comes in a schedule at line rate, from all pointers at port 0 on
-pub comes : (n count : ℕ) (ps : List Plan) (after : Places) (rest : List Plan) → IsSwitch n (places_at_first n)
-    → Starts IsOneEach ps → Starts (Follows nothing) ps
-    → LeadsBy n (decided n) 0 (places_at_first n) ps count after rest → IsSwitch n after → IsLate n count after rest
+pub comes : (n count : ℕ) (ps : List Plan) (after : Places) (rest : List Plan) → IsOpening n (decided n) ps count after rest → IsLate n count after rest
     → (slots : List DecidedSlot) × AreFedAtLineRate n slots × ComesLastAtLineRate n 1 count slots × (length (drop count slots) ≡ length rest)
-comes n count ps after rest switch one first leads later late =
+comes n count ps after rest opening late =
+    let leads = opening.leads in
     let from = places_at_first n in
     let slots = run n (decided n) 0 from ps in
     let dropped : drop count slots ≡ run n (decided n) count after rest = led n (decided n) from ps count after rest leads in
     let all = kept_all n (decided n) from ps count after rest leads late.run_kept in
-    let served : IsServedLast n 1 count 0 0 0 after (run n (decided n) count after rest) = IsServedLast-run n count after rest later late in (
+    let served : IsServedLast n 1 count 0 0 0 after (run n (decided n) count after rest) = IsServedLast-run n count after rest opening.later late in (
       slots,
-      fed_at_line_rate n ps slots (all.fed nothing first),
+      fed_at_line_rate n ps slots (all.fed nothing opening.first),
       record {
         comes = record {
-          schedule = IsSchedule-run n 0 from ps switch;
+          schedule = IsSchedule-run n 0 from ps opening.switch;
           within = All-run n (decided n) 0 from (AreWithin n) (AreWithin-rows n) ps;
           kept = all.kept;
           last = subst (λ f. IsServedLast n 1 count 0 0 0 f (drop count slots)) (sym leads.left)
               (subst (λ s. IsServedLast n 1 count 0 0 0 after s) (sym dropped) served);
         };
         line_rate = all.line;
-        opens = opens_run n (decided n) 0 from ps one;
+        opens = opens_run n (decided n) 0 from ps opening.one;
       },
       ap length dropped ∙ length-run n (decided n) count after rest,
     )

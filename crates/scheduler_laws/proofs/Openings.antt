@@ -112,8 +112,13 @@ module _ (n : ℕ) (more : 1 < n) (rest : List Plan) (starts : Starts (Follows a
       let e : suc n ≡ n + 1 = omega arith in
       let beginning = found.1 in
       subst (λ c. (slots : List DecidedSlot) × AreFedAtLineRate n slots × ComesLastAtLineRate n 1 c slots × (length (drop c slots) ≡ length rest)) e
-      (comes n (suc n) (openings 0 n rest) found.0 rest opened.switch (starts_openings 0 n rest) (starts_first n rest more) found.2
-      (beginning 0).switch (late (suc n) found.0 beginning))
+      (comes n (suc n) (openings 0 n rest) found.0 rest (record {
+        switch = opened.switch;
+        one = starts_openings 0 n rest;
+        first = starts_first n rest more;
+        leads = found.2;
+        later = (beginning 0).switch;
+      }) (late (suc n) found.0 beginning))
 
 -- the window is reached at line rate
 abbrev Reached : ℕ → Type 0

@@ -38,6 +38,10 @@ pub record AreTogether (n : ℕ) (g : ℕ → ℕ) (x : ℕ) : Type 0 where
   pub one_at : g one ≡ x
   pub other_at : g other ≡ x
 
+-- no two pointers are together
+abbrev pub AreApart : ℕ → (ℕ → ℕ) → Type 0
+AreApart n g = (j k : ℕ) → j < n → k < n → (j ≡ k → ⊥) → g j ≡ g k → ⊥
+
 -- before any slot
 pub IsSpread-first : (n : ℕ) (g : ℕ → ℕ) → ((j : ℕ) → j < n → g j < n) → IsSpread n 0 g
 IsSpread-first n g below j k j_in k_in differ same d d_in =
@@ -106,14 +110,14 @@ module _ (n : ℕ) (g h : ℕ → ℕ) (F : ℕ → ℕ → Type 0) (step : IsSt
       farther_after t (h j) d spread (together_before j k j_in k_in differ same) (omega arith)
 
   -- where no two pointers are together each output is taken
-  pub all_taken : ((j k : ℕ) → j < n → k < n → (j ≡ k → ⊥) → g j ≡ g k → ⊥) → (j : ℕ) → j < n → F (g j) j
+  pub all_taken : AreApart n g → (j : ℕ) → j < n → F (g j) j
   all_taken apart j j_in = elim (taken_or j j_in) [
     | inl taken ↦ taken
     | inr left ↦ let pair = left.0 in absurd (apart pair.one pair.other pair.one_in pair.other_in pair.differ (pair.one_at ∙ sym pair.other_at))
   ]
 
 -- after n - 1 slots no two pointers are together: at every port there would be one, and at one of them two
-pub apart_at_last : (n t : ℕ) (g : ℕ → ℕ) → n ≤ t + 1 → ((j : ℕ) → j < n → g j < n) → IsSpread n t g → (j k : ℕ) → j < n → k < n → (j ≡ k → ⊥) → g j ≡ g k → ⊥
+pub apart_at_last : (n t : ℕ) (g : ℕ → ℕ) → n ≤ t + 1 → ((j : ℕ) → j < n → g j < n) → IsSpread n t g → AreApart n g
 apart_at_last n t g late below spread j k j_in k_in differ same =
     let covers : Covers n n g = λ y y_in.
     let far = distance-lt n (g j) y (below j j_in) in

@@ -8,14 +8,16 @@ use Rattle.slot_match.specs.Rows.{Names, row_of}
 use Rattle.slot_match.specs.declared.matching.Fed.{Fed}
 use Rattle.slot_match.specs.Matches.{Serves}
 use Rattle.slot_match.specs.Keeping.{Keeps}
-use Rattle.pointer_state.specs.Places.{Places}
+use Rattle.pointer_state.specs.Places.{Places, places_at_first}
 use Rattle.eslip_rounds.specs.Slots.{Decision}
 use Rattle.eslip_rounds.specs.Schedules.{DecidedSlot}
 use Rattle.service_bound.specs.Windows.{AreKept, GainAtMostOne, AreAtLineRate, InFirst, places_after}
 use Rattle.service_bound.specs.Latest.{ServeLast}
+use Rattle.service_bound.proofs.PostedRuns.{IsSwitch}
 use Rattle.scheduler_laws.specs.Reached.{AskAtMostOne}
 use Rattle.scheduler_laws.proofs.Plans.{In, IsServing, Each, each, Plan, asked, rows_of, posted, names}
 use Rattle.scheduler_laws.proofs.NextPlans.{IsOn, IsGained, IsApart, AreApart, Follows, Starts}
+use Rattle.scheduler_laws.proofs.Shapes.{nothing}
 use Rattle.scheduler_laws.proofs.FedRuns.{IsFedRun, IsFedRun-before}
 
 -- ---- one slot and the next
@@ -169,3 +171,11 @@ pub kept_all : (n : ℕ) (rule : Rule) (from : Places) (ps : List Plan) (count :
     → LeadsBy n rule 0 from ps count after rest → IsKeptRun n rule count after rest → IsKeptRun n rule 0 from ps
 kept_all n rule from ps count after rest leads kept = let same : 0 + count ≡ count = omega arith in
     leads.keeping (subst (λ s. IsKeptRun n rule s after rest) (sym same) kept)
+
+-- Plans before which nothing waits open a run from all pointers at port 0, and lead to pointers of a switch.
+pub record IsOpening (n : ℕ) (rule : Rule) (ps : List Plan) (count : ℕ) (after : Places) (rest : List Plan) : Type 0 where
+  pub switch : IsSwitch n (places_at_first n)
+  pub one : Starts IsOneEach ps
+  pub first : Starts (Follows nothing) ps
+  pub leads : LeadsBy n rule 0 (places_at_first n) ps count after rest
+  pub later : IsSwitch n after

@@ -1,5 +1,5 @@
 -- Where the pointers of queue (0, 0) are before each slot of a cycle, and that they come round.
-use Rattle.std.proofs.Common.{◌≡◌, ℕ, ◌+◌, ◌%◌, ◌<◌, ◌≤◌, ◌⊎◌, ◌∙◌, sym, ap, inl, inr, arith}
+use Rattle.std.proofs.Common.{◌≡◌, ℕ, ◌+◌, ◌%◌, ◌<◌, ◌≤◌, ◌∙◌, sym, ap, inl, inr, arith}
 use Rattle.std.proofs.Math.Nat.{mod-eq_of_lt}
 use Rattle.std.proofs.lemmas.Bool.{cases_eq}
 use Rattle.std.proofs.lemmas.Nat.{mod_below}
@@ -44,28 +44,6 @@ pointed_at n s a b places more s_in (inr high) turned =
       accept = λ some. let there = turned.high high.0 in omega arith;
     }
 
--- after a slot of the first n
-after_low : (n s next : ℕ) (after : Places) → 1 < n → s < n → next ≡ s + 1 → ArePointing n 0 after → grant_of after 0 0 ≡ (s + 1) % n
-    → accept_of after 0 0 ≡ 1 → AreTurned n next after
-after_low n s next after more low moved pointing grant accept =
-    record {
-      pointing = pointing;
-      low = λ some below. (grant ∙ mod-eq_of_lt (omega arith) ∙ sym moved, accept);
-      high = λ above. omega arith;
-    }
-
--- after one of the n - 1 after them
-after_high : (n s b next : ℕ) (after : Places) → 1 < n → b + n ≡ s + 1 → n ≤ s → ((s + 1 < cycle n) × (next ≡ s + 1)) ⊎ ((s + 1 ≡ cycle n) × (next ≡ 0))
-    → ArePointing n 0 after → accept_of after 0 0 ≡ (b + 1) % n → AreTurned n next after
-after_high n s b next after more is high (inl on) pointing accept =
-    let moved = on.1 in
-    let room = on.0 in
-    let one_on : (b + 1) % n ≡ b + 1 = mod-eq_of_lt (omega arith) in
-    record { pointing = pointing; low = λ some below. absurd (omega arith); high = λ above. omega arith }
-after_high n s b next after more is high (inr round) pointing accept =
-    let moved = round.1 in
-    record { pointing = pointing; low = λ some below. absurd (omega arith); high = λ above. absurd (omega arith) }
-
 module _ (Moves : Moving) (pairs : MovePairs Moves) (n rounds t : ℕ) (places : Places) (slot : DecidedSlot) (more : 1 < n) (some : 0 < rounds)
     (turned : AreTurned n (t % cycle n) places) (within : AreWithin n slot.rows)
     (asks : AskFor n (input_at n (t % cycle n)) (output_at n (t % cycle n)) slot.rows)
@@ -108,9 +86,26 @@ module _ (Moves : Moving) (pairs : MovePairs Moves) (n rounds t : ℕ) (places :
               | inr above ↦
                   accept_stays Moves pairs n rounds t a b places slot some pointed within asks decided (omega arith) ∙ (turned.low (omega arith) low.0).1
             ] in
-            after_low n s ((t + 1) % cycle n) slot.decision.places more low.0 moved pointing grant accept
+            record {
+              pointing = pointing;
+              low = λ some below. (grant ∙ mod-eq_of_lt (omega arith) ∙ sym moved, accept);
+              high = λ above. let below = low.0 in omega arith;
+            }
         | inr high ↦
             let accept : accept_of slot.decision.places 0 0 ≡ (b + 1) % n =
             ap (λ i. accept_of slot.decision.places i 0) (sym high.1) ∙ accept_after in
-            after_high n s b ((t + 1) % cycle n) slot.decision.places more high.2 high.0 next pointing accept
+            let late = high.0 in
+            let is = high.2 in
+            record {
+              pointing = pointing;
+              low = λ some below. elim next [ inl on ↦ let moved = on.1 in absurd (omega arith) | inr round ↦ let moved = round.1 in absurd (omega arith) ];
+              high = λ above. elim next [
+                | inl on ↦
+                    let room = on.0 in
+                    let moved = on.1 in
+                    let one_on : (b + 1) % n ≡ b + 1 = mod-eq_of_lt (omega arith) in
+                    omega arith
+                | inr round ↦ let moved = round.1 in absurd (omega arith)
+              ];
+            }
       ]

@@ -6,7 +6,7 @@ use Rattle.eslip_rounds.specs.Schedules.{DecidedSlot}
 use Rattle.scheduler_laws.specs.FedSlots.{came, gone, waiting}
 use Rattle.scheduler_laws.specs.Growth.{cycle, period, one_in, growing}
 use Rattle.scheduler_laws.proofs.Counting.{range_sum-more, second_comes, first_comes}
-use Rattle.scheduler_laws.proofs.GrowingTurns.{period_some, IsPair, leaving, IsLeaving, leaves_pair}
+use Rattle.scheduler_laws.proofs.GrowingTurns.{period_some, input_at, output_at, pair_at, leaving, IsLeaving, leaves_pair}
 use Rattle.scheduler_laws.proofs.OneSlot.{IsAsked}
 
 -- how many cells have left the queue of input i and output j before slot t
@@ -48,12 +48,17 @@ leaves_asked n t a b i j (inr off) other = (
   λ asked. elim asked [ inl first ↦ absurd (other first) | inr it ↦ absurd (off.0 it) ],
 )
 
+asked_elsewhere : (n t i j : ℕ) → 1 < n → i < n → j < n → ((i ≡ 0) × (j ≡ 0) → ⊥)
+    → (0 < leaving n i j t) ↔ IsAsked (input_at n (t % cycle n)) (output_at n (t % cycle n)) i j
+asked_elsewhere n t i j more i_in j_in other =
+    let a : ℕ = input_at n (t % cycle n) in
+    let b : ℕ = output_at n (t % cycle n) in
+    leaves_asked n t a b i j (leaves_pair n t a b i j i_in j_in (pair_at n (t % cycle n) (omega arith))) other
+
 -- cells wait in queue (0, 0) and in that of the pair of the slot
-pub waits_asked : (n m t a b i j : ℕ) → i < n → j < n → IsPair n (t % cycle n) a b → (0 < waits n m i j t) ↔ IsAsked a b i j
-waits_asked n m t a b zero zero i_in j_in pair = (λ some. inl (refl, refl), λ asked. omega arith)
-waits_asked n m t a b (suc i) zero i_in j_in pair =
-    leaves_asked n t a b (suc i) zero (leaves_pair n t a b (suc i) zero i_in j_in pair) (λ first. let e = first.0 in omega arith)
-waits_asked n m t a b zero (suc j) i_in j_in pair =
-    leaves_asked n t a b zero (suc j) (leaves_pair n t a b zero (suc j) i_in j_in pair) (λ first. let e = first.1 in omega arith)
-waits_asked n m t a b (suc i) (suc j) i_in j_in pair =
-    leaves_asked n t a b (suc i) (suc j) (leaves_pair n t a b (suc i) (suc j) i_in j_in pair) (λ first. let e = first.0 in omega arith)
+pub waits_asked : (n m t i j : ℕ) → 1 < n → i < n → j < n
+    → (0 < waits n m i j t) ↔ IsAsked (input_at n (t % cycle n)) (output_at n (t % cycle n)) i j
+waits_asked n m t zero zero more i_in j_in = (λ some. inl (refl, refl), λ asked. omega arith)
+waits_asked n m t (suc i) zero more i_in j_in = asked_elsewhere n t (suc i) zero more i_in j_in (λ first. let e = first.0 in omega arith)
+waits_asked n m t zero (suc j) more i_in j_in = asked_elsewhere n t zero (suc j) more i_in j_in (λ first. let e = first.1 in omega arith)
+waits_asked n m t (suc i) (suc j) more i_in j_in = asked_elsewhere n t (suc i) (suc j) more i_in j_in (λ first. let e = first.0 in omega arith)

@@ -1,5 +1,6 @@
 -- Slots of a schedule, each of which asks for the pair of the slot where so much has left: what has left before each of them.
-use Rattle.std.proofs.Common.{◌≡◌, ℕ, zero, suc, ◌+◌, ◌%◌, ◌<◌, ◌≤◌, ◌∙◌, ◌++◌, List, [], ◌∷◌, Some, All, length, take, refl, sym, ap, subst, inl, inr, arith}
+use Rattle.std.proofs.Common.{◌≡◌, ℕ, zero, suc, ◌+◌, ◌%◌, ◌<◌, ◌≤◌, ◌∙◌, ◌++◌, List, [], ◌∷◌, Some, All, length, refl, sym, ap, subst, inl, inr, arith}
+use Rattle.std.proofs.Common.{take, drop}
 use Rattle.std.specs.Prelude.{slice_get}
 use Rattle.std.specs.List.{sum_by}
 use Rattle.std.proofs.lemmas.List.{take_more}
@@ -20,20 +21,22 @@ use Rattle.scheduler_laws.proofs.OneSlot.{AskFor, MovePairs, one_leaves, none_le
 use Rattle.scheduler_laws.proofs.Pointers.{AreTurned, pair, pointed, turned_after}
 use Rattle.scheduler_laws.proofs.Queues.{has_left, left_next}
 
--- a slot of a schedule is decided from the pointers after those before it
-decided_at : (Moves : Moving) (n rounds : ℕ) (slots : List DecidedSlot) (k t : ℕ) (places : Places) (slot : DecidedSlot)
-    → IsScheduleBy Moves n rounds t places slots → slice_get slots k ≡ Some slot
-    → IsSlotBy Moves n rounds (t + k) slot.rows (places_after places (take k slots)) slot.decision
-decided_at Moves n rounds [] k t places slot schedule there = absurd (let none = slice_get_within [] k slot there in omega arith)
-decided_at Moves n rounds (first ∷ slots) zero t places slot schedule there =
-    let same : first ≡ slot = same_Some first slot there in
-    let now : t ≡ t + 0 = omega arith in
-    let P : DecidedSlot → Type 0 = λ x. IsSlotBy Moves n rounds (t + 0) x.rows places x.decision in
-    subst P same (subst (λ u. IsSlotBy Moves n rounds u first.rows places first.decision) now schedule.0)
-decided_at Moves n rounds (first ∷ slots) (suc k) t places slot schedule there =
+-- the slots from slot k on are a schedule from the pointers after those before it
+schedule_from : (Moves : Moving) (n rounds k t : ℕ) (places : Places) (slots : List DecidedSlot) → IsScheduleBy Moves n rounds t places slots
+    → IsScheduleBy Moves n rounds (t + k) (places_after places (take k slots)) (drop k slots)
+schedule_from Moves n rounds zero t places slots schedule =
+    let now : t ≡ t + 0 = omega arith in subst (λ u. IsScheduleBy Moves n rounds u places slots) now schedule
+schedule_from Moves n rounds (suc k) t places [] schedule = tt
+schedule_from Moves n rounds (suc k) t places (slot ∷ slots) schedule =
     let now : t + 1 + k ≡ t + suc k = omega arith in
-    subst (λ u. IsSlotBy Moves n rounds u slot.rows (places_after first.decision.places (take k slots)) slot.decision) now
-    (decided_at Moves n rounds slots k (t + 1) first.decision.places slot schedule.1 there)
+    subst (λ u. IsScheduleBy Moves n rounds u (places_after slot.decision.places (take k slots)) (drop k slots)) now
+    (schedule_from Moves n rounds k (t + 1) slot.decision.places slots schedule.1)
+
+-- of which slot k is the first
+drop_from : (slots : List DecidedSlot) (k : ℕ) (slot : DecidedSlot) → slice_get slots k ≡ Some slot → drop k slots ≡ slot ∷ drop (suc k) slots
+drop_from [] k slot there = absurd (let none = slice_get_within [] k slot there in omega arith)
+drop_from (first ∷ slots) zero slot there = ap (λ x. x ∷ slots) (same_Some first slot there)
+drop_from (first ∷ slots) (suc k) slot there = drop_from slots k slot there
 
 -- the pointers after a last slot are those that it left
 places_last : (slots : List DecidedSlot) (places : Places) (slot : DecidedSlot) → places_after places (slots ++ slot ∷ []) ≡ slot.decision.places
@@ -62,6 +65,10 @@ pub record AreGoing (n : ℕ) (places : Places) (slots : List DecidedSlot) (k : 
 abbrev pub AskInTurn : ℕ → ℕ → DecidedSlot → Type 0
 AskInTurn n k slot = AskFor n (input_at n (k % cycle n)) (output_at n (k % cycle n)) slot.rows
 
+-- it does so in each slot before which all is where it is to be
+abbrev pub KeepAsking : ℕ → Places → List DecidedSlot → Type 0
+KeepAsking n places slots = (k : ℕ) (slot : DecidedSlot) → slice_get slots k ≡ Some slot → AreGoing n places slots k → AskInTurn n k slot
+
 module _ (Moves : Moving) (pairs : MovePairs Moves) (n rounds : ℕ) (places : Places) (slots : List DecidedSlot) (more : 1 < n)
     (pointing : ArePointing n 0 places) (some : 0 < rounds) (schedule : IsScheduleBy Moves n rounds 0 places slots)
     (within : All (λ slot. AreWithin n slot.rows) slots) where
@@ -78,7 +85,9 @@ module _ (Moves : Moving) (pairs : MovePairs Moves) (n rounds : ℕ) (places : P
     here : IsSlotBy Moves n rounds k slot.rows (places_after places (take k slots)) slot.decision
     here =
         let now : 0 + k ≡ k = omega arith in
-        subst (λ u. IsSlotBy Moves n rounds u slot.rows before_it slot.decision) now (decided_at Moves n rounds slots k 0 places slot schedule there)
+        let from = subst (IsScheduleBy Moves n rounds (0 + k) before_it) (drop_from slots k slot there)
+        (schedule_from Moves n rounds k 0 places slots schedule) in
+        subst (λ u. IsSlotBy Moves n rounds u slot.rows before_it slot.decision) now from.0
 
     inside : AreWithin n slot.rows
     inside =
@@ -113,8 +122,7 @@ module _ (Moves : Moving) (pairs : MovePairs Moves) (n rounds : ℕ) (places : P
         }
 
   -- so it is before every slot, and after the last
-  pub going_on : ((k : ℕ) (slot : DecidedSlot) → slice_get slots k ≡ Some slot → AreGoing n places slots k → AskInTurn n k slot)
-      → (k : ℕ) → k ≤ length slots → AreGoing n places slots k
+  pub going_on : KeepAsking n places slots → (k : ℕ) → k ≤ length slots → AreGoing n places slots k
   going_on asking zero long = going_first
   going_on asking (suc k) long =
       let before = going_on asking k (omega arith) in

@@ -12,10 +12,9 @@ use Rattle.pointer_state.specs.Places.{Places, grant_of, accept_of}
 use Rattle.eslip_rounds.specs.Rounds.{Requests, Grants, Accepts, preferred}
 use Rattle.eslip_rounds.specs.Slots.{Decision, Moving, IsSlotBy}
 use Rattle.eslip_rounds.proofs.Running.{once_unicast}
-use Rattle.eslip_rounds.proofs.Unique.{IsMatch-slot_by, Serves-named_by}
 use Rattle.service_bound.proofs.LaterRounds.{first_of, second_of, BeginsWith, BeginsWith-slot}
 use Rattle.service_bound.proofs.PostedRuns.{IsSwitch}
-use Rattle.scheduler_laws.proofs.Plans.{In, IsServing, Each, each, Plan, asked, rows_of, posted, names, AreWithin-rows}
+use Rattle.scheduler_laws.proofs.Plans.{In, IsServing, Each, each, Plan, asked, rows_of, posted, names}
 use Rattle.scheduler_laws.proofs.PlannedSlots.{Suits, served_it, only_it}
 
 -- ---- where nothing is left
@@ -23,17 +22,13 @@ use Rattle.scheduler_laws.proofs.PlannedSlots.{Suits, served_it, only_it}
 abbrev pub IsSettled : Plan → ℕ → ℕ → Type 0
 IsSettled p i j = ((y : ℕ) × In i y p.serves) ⊎ ((z : ℕ) × In z j p.serves)
 
--- A slot of the rows of plan p serves no others than the pairs of a plan q of these rows, where it serves these and they
--- leave nothing to serve.
-pub serving_settled : (Moves : Moving) (rounds n t : ℕ) (places : Places) (p : Plan) (decision : Decision) → IsSwitch n places
-    → IsSlotBy Moves n rounds t (rows_of n p) places decision → (q : Plan) → rows_of n q ≡ rows_of n p
-    → ((i j : ℕ) → In i j q.serves → Serves decision.matched i j 0 Uni) → Each (IsSettled q) (asked q) → IsServing q decision.matched
-serving_settled Moves rounds n t places p decision switch now q same serves settled =
-    let matched = decision.matched in
-    let whole : IsMatch n matched = IsMatch-slot_by n rounds t (rows_of n p) places (AreWithin-rows n p) switch.at_ports switch.ports Moves decision now in
+-- A match of the rows of a plan serves no others than its pairs, where it serves these and they leave nothing to serve.
+pub serving_settled : (n : ℕ) (q : Plan) (matched : List (Option Fed)) → IsMatch n matched
+    → ((i j level : ℕ) (kind : Kind) → Serves matched i j level kind → Names (row_of (rows_of n q) i) level kind j)
+    → ((i j : ℕ) → In i j q.serves → Serves matched i j 0 Uni) → Each (IsSettled q) (asked q) → IsServing q matched
+serving_settled n q matched whole named serves settled =
     let asked_it = λ (i j level : ℕ) (kind : Kind) (s : Serves matched i j level kind).
-    posted n q i j level kind (whole.input_in i j level kind s)
-    (subst (λ rows. Names (row_of rows i) level kind j) (sym same) (Serves-named_by Moves n rounds t (rows_of n p) places decision now i j level kind s)) in
+    posted n q i j level kind (whole.input_in i j level kind s) (named i j level kind s) in
     record {
       serves = serves;
       asking = λ i j is. (asked_it i j 0 Uni (serves i j is)).3;

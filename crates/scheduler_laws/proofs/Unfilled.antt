@@ -67,19 +67,31 @@ module _ (n s t level : ℕ) (places : Places) (slot : DecidedSlot) (slots : Lis
 abbrev pub IsNotFull : ℕ → ℕ → DecidedSlot → Type 0
 IsNotFull n level slot = IsFullMatch n level slot.decision.matched → ⊥
 
--- after s slots m more leave an output
-unfilled_after : (n level s m t : ℕ) (places : Places) (slots : List DecidedSlot) → s + m ≤ n - 1 → IsLine n s (grants_of places level)
-    → accept_of places 0 level ≡ s → IsFullyLoaded n 1 t level places slots → All (IsNotFull n level) (take m slots)
-unfilled_after n level s zero t places slots room line accepts loaded = All-nil (IsNotFull n level)
-unfilled_after n level s (suc m) t places [] room line accepts loaded = All-nil (IsNotFull n level)
-unfilled_after n level s (suc m) t places (slot ∷ slots) room line accepts loaded =
-    let more : s + 1 < n = omega arith in
+-- Slots of full load, before which the first `spent` outputs were taken.
+record AreLined (n level : ℕ) (slots : List DecidedSlot) : Type 0 where
+  spent : ℕ
+  t : ℕ
+  places : Places
+  line : IsLine n spent (grants_of places level)
+  accepts : accept_of places 0 level ≡ spent
+  loaded : IsFullyLoaded n 1 t level places slots
+
+-- the first m leave an output
+unfilled_after : (n level m : ℕ) (slots : List DecidedSlot) (on : AreLined n level slots) → on.spent + m ≤ n - 1 → All (IsNotFull n level) (take m slots)
+unfilled_after n level zero slots on room = All-nil (IsNotFull n level)
+unfilled_after n level (suc m) [] on room = All-nil (IsNotFull n level)
+unfilled_after n level (suc m) (slot ∷ slots) on room =
+    let more : on.spent + 1 < n = omega arith in
     All-cons (IsNotFull n level) slot (take m slots)
-    (not_full n s t level places slot slots loaded line accepts more)
-    (unfilled_after n level (s + 1) m (t + 1) slot.decision.places slots (omega arith)
-    (line_next n s t level places slot slots loaded line accepts more)
-    (accepts_next n s t level places slot slots loaded line accepts more)
-    (loaded_later n 1 t level (omega arith) places slot slots loaded))
+    (not_full n on.spent on.t level on.places slot slots on.loaded on.line on.accepts more)
+    (unfilled_after n level m slots (record {
+      spent = on.spent + 1;
+      t = on.t + 1;
+      places = slot.decision.places;
+      line = line_next n on.spent on.t level on.places slot slots on.loaded on.line on.accepts more;
+      accepts = accepts_next n on.spent on.t level on.places slot slots on.loaded on.line on.accepts more;
+      loaded = loaded_later n 1 on.t level (omega arith) on.places slot slots on.loaded;
+    }) (omega arith))
 
 -- from all pointers at port 0 the first n - 1 slots are not full
 pub unfilled_at_first : (n t level : ℕ) (slots : List DecidedSlot) → IsFullyLoaded n 1 t level (places_at_first n) slots
@@ -88,4 +100,11 @@ unfolding places_at_first
 unfilled_at_first n t level slots loaded =
     let line : IsLine n 0 (grants_of (places_at_first n) level) =
     record { gone = λ j j_in. absurd (omega arith); here = λ j after j_in. place_of-at_first level j } in
-    unfilled_after n level 0 (n - 1) t (places_at_first n) slots (omega arith) line (place_of-at_first level 0) loaded
+    unfilled_after n level (n - 1) slots (record {
+      spent = 0;
+      t = t;
+      places = places_at_first n;
+      line = line;
+      accepts = place_of-at_first level 0;
+      loaded = loaded;
+    }) (omega arith)
