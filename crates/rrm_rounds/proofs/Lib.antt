@@ -2,7 +2,6 @@ pub mod PointersKept
 pub mod Passing
 pub mod OneDecision
 pub mod Computed
-pub mod PointersMoved
 pub mod Scheduling
 pub mod StarvingSlots
 pub mod Starved

@@ -1,6 +1,6 @@
 -- Outputs that were refused pass their inputs one after another.
-use Rattle.std.proofs.Common.{◌≡◌, ℕ, ◌+◌, ◌%◌, ◌↔◌, ◌⊎◌, ◌∙◌, refl, subst, inl, inr}
-use Rattle.pointer_state.specs.Places.{Places, grant_of, accept_of, shared_of}
+use Rattle.std.proofs.Common.{ℕ, ◌↔◌, ◌⊎◌, ◌∙◌, refl, inl, inr}
+use Rattle.pointer_state.specs.Places.{Places}
 use Rattle.rrm_rounds.specs.SlotSteps.{AreBeyond}
 
 -- nothing is passed
@@ -26,20 +26,17 @@ AreBeyond-along n P Q before after same beyond =
       shared = beyond.shared;
     }
 
--- one more output k, which passes input a at one level
-pub AreBeyond-next : (n : ℕ) (P : ℕ → ℕ → ℕ → Type 0) (a k at : ℕ) (first before after : Places) → ((i level : ℕ) → P i k level → ⊥)
-    → AreBeyond n P first before → after.ports ≡ before.ports → grant_of after k at ≡ (a + 1) % n
-    → ((j other : ℕ) → (j ≡ k → other ≡ at → ⊥) → grant_of after j other ≡ grant_of before j other)
-    → ((i other : ℕ) → accept_of after i other ≡ accept_of before i other) → ((other : ℕ) → shared_of after other ≡ shared_of before other)
-    → AreBeyond n (λ i j level. P i j level ⊎ ((i ≡ a) × (j ≡ k) × (level ≡ at))) first after
-AreBeyond-next n P a k at first before after new beyond ports grant grants accepts shared =
+-- after some outputs passed their inputs, others do
+pub AreBeyond-then : (n : ℕ) (P Q : ℕ → ℕ → ℕ → Type 0) (first before after : Places) → ((i x j level : ℕ) → P i j level → Q x j level → ⊥)
+    → AreBeyond n P first before → AreBeyond n Q before after → AreBeyond n (λ i j level. P i j level ⊎ Q i j level) first after
+AreBeyond-then n P Q first before after apart one other =
     record {
-      ports = ports ∙ beyond.ports;
+      ports = other.ports ∙ one.ports;
       passed = λ i j level s. elim s [
-        | inl p ↦ grants j level (λ e f. new i level (subst (λ y. P i y level) e p)) ∙ beyond.passed i j level p
-        | inr q ↦ rw (q.0, q.1, q.2) grant
+        | inl p ↦ other.stays j level (λ x q. apart i x j level p q) ∙ one.passed i j level p
+        | inr q ↦ other.passed i j level q
       ];
-      stays = λ j level none. grants j level (λ e f. none a (inr (refl, e, f))) ∙ beyond.stays j level (λ i p. none i (inl p));
-      accepts = λ i other. accepts i other ∙ beyond.accepts i other;
-      shared = λ other. shared other ∙ beyond.shared other;
+      stays = λ j level none. other.stays j level (λ i q. none i (inr q)) ∙ one.stays j level (λ i p. none i (inl p));
+      accepts = λ i level. other.accepts i level ∙ one.accepts i level;
+      shared = λ level. other.shared level ∙ one.shared level;
     }

@@ -15,6 +15,15 @@ pass-requires-clause-refused c =
 
 pub returns : goal.returns
 returns c =
-    IsDecidedBy-passed c.args.n c.args.rounds c.args.slot c.args.rows.now c.args.p.now c.args.out.now c.requires c.decide_with_refused.new.out c.decide_with_refused.result.0
-    c.decide_with_refused.new.p c.decide_with_refused.result.1 c.decide_with_refused.ensures.decided c.decide_with_refused.ensures.refused c.pass.new.p c.ports.ensures.at_ports
-    c.pass.ensures.passed c.pass.ensures.at_ports
+    let made = c.decide_with_refused in
+    IsDecidedBy-passed c.args.n c.args.rounds c.args.slot c.args.rows.now c.args.p.now
+    (record { matched = made.new.out; numbers = made.result.0; places = made.new.p }) c.pass.new.p made.ensures.decided (record {
+      some = c.requires.rounds_some;
+      within = c.requires.within;
+      ports = c.requires.pointers;
+      at_ports = c.ports.ensures.at_ports;
+      refused = made.result.1;
+      are = made.ensures.refused;
+      beyond = c.pass.ensures.passed;
+      after_at_ports = c.pass.ensures.at_ports;
+    })
