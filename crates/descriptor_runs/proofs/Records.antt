@@ -9,7 +9,7 @@ use Rattle.pcap_records.specs.declared.order.Order.TheVariants.{Big, Little}
 use Rattle.pcap_records.specs.Packets.{Packet}
 use Rattle.pcap_records.specs.Format.{number_bytes, number_in, record_header, record_bytes}
 use Rattle.pcap_records.specs.Output.{message_of, message_packet, record_of, fraction_of, header_text, record_text, capture_text}
-use Rattle.pcap_records.proofs.Filling.{IsFilled, filled_more, put_at}
+use Rattle.pcap_records.proofs.Filling.{IsFilled, number_more, put_at}
 use Rattle.pcap_records.proofs.Numbers.{length-number_bytes, number_in-number_bytes}
 use Rattle.pcap_records.proofs.Output.{message_of-fields}
 use Rattle.descriptor_runs.specs.OutputSteps.{record_message}
@@ -17,16 +17,16 @@ use borrow.Rule.Slice.PartMut.{put_mid}
 
 -- ---- the header of a record
 -- a number of four bytes more, where `rest` places are left
-number_more : (old written now new : List ℕ) (at rest n : ℕ) → length old ≡ at + rest → 4 ≤ rest → IsFilled old written at now
+four_more : (old written now new : List ℕ) (at rest n : ℕ) → length old ≡ at + rest → 4 ≤ rest → IsFilled old written at now
     → new ≡ number_bytes Little 4 n ++ drop 4 (take rest (drop at now)) → IsFilled old (written ++ number_bytes Little 4 n) (at + 4) (put_mid at rest now new)
-number_more old written now new at rest n room fits filled e =
+four_more old written now new at rest n room fits filled e =
     let long : length now ≡ length written + length (drop at old) = ap length filled.spelled ∙ length-append written (drop at old) in
     let same : length now - at ≡ rest = omega (arith, length-drop at old, filled.place) in
     let put : put_mid at rest now new ≡ take at now ++ (number_bytes Little 4 n ++ drop (at + 4) now) =
     subst (λ r. new ≡ number_bytes Little 4 n ++ drop 4 (take r (drop at now))
     → put_mid at r now new ≡ take at now ++ (number_bytes Little 4 n ++ drop (at + 4) now))
     same (put_at at 4 now new (number_bytes Little 4 n)) e in
-    filled_more old written now (number_bytes Little 4 n) (put_mid at rest now new) at 4 (at + 4) filled (length-number_bytes Little 4 n) (omega arith) put
+    number_more old written now (put_mid at rest now new) at 4 n filled put
 
 -- a header that is written number by number
 pub header_written : (s f c o : ℕ) (rest b1 w2 w3 w4 : List ℕ) → length rest ≡ 12
@@ -41,9 +41,9 @@ header_written s f c o rest b1 w2 w3 w4 len e1 e2 e3 e4 =
     let room : length b1 ≡ 16 = ap length e1 ∙ length-append first rest ∙ omega (arith, front, len) in
     let after : drop 4 b1 ≡ rest = ap (drop 4) e1 ∙ drop_at first rest 4 front in
     let d1 : IsFilled b1 first 4 b1 = record { spelled = e1 ∙ ap (λ w. first ++ w) (sym after); place = front } in
-    let d2 = number_more b1 _ b1 w2 4 12 f room (omega arith) d1 e2 in
-    let d3 = number_more b1 _ (put_mid 4 12 b1 w2) w3 8 8 c room (omega arith) d2 e3 in
-    let d4 = number_more b1 _ (put_mid 8 8 (put_mid 4 12 b1 w2) w3) w4 12 4 o room (omega arith) d3 e4 in
+    let d2 = four_more b1 _ b1 w2 4 12 f room (omega arith) d1 e2 in
+    let d3 = four_more b1 _ (put_mid 4 12 b1 w2) w3 8 8 c room (omega arith) d2 e3 in
+    let d4 = four_more b1 _ (put_mid 8 8 (put_mid 4 12 b1 w2) w3) w4 12 4 o room (omega arith) d3 e4 in
     let none : drop 16 b1 ≡ [] = drop_all 16 b1 (omega arith) in
     d4.spelled ∙ ap (λ w. record_header Little s f c o ++ w) none ∙ append-nil (record_header Little s f c o)
 

@@ -12,14 +12,14 @@ use Rattle.pcap_records.specs.declared.link.Link.TheVariants.{Ethernet, RawIp}
 use Rattle.pcap_records.specs.declared.order.Order.{Order}
 use Rattle.pcap_records.specs.declared.order.Order.TheVariants.{Big, Little}
 use Rattle.pcap_records.specs.Packets.{packet_in, AreInOrder, IsWithin}
-use Rattle.pcap_records.specs.Format.{number_bytes, number_in, magic, link_type, header_of, record_header}
+use Rattle.pcap_records.specs.Format.{number_bytes, number_in, magic, link_type, Header, header_of, record_header}
 use Rattle.pcap_records.specs.Captures.{HasHeader, IsCapture}
-use Rattle.pcap_records.specs.Faults.{IsFault, in_header}
+use Rattle.pcap_records.specs.Faults.{IsFault, in_header, in_bytes}
 use Rattle.pcap_records.specs.Records.{IsStored, IsBroken}
 use Rattle.pcap_records.proofs.Numbers.{IsBytes, IsBytes-drop, number_in-lt, read_two, read_four, spelled_four}
 use Rattle.pcap_records.proofs.Headers.{no_magic, link_in, has_header, good_header}
-use Rattle.pcap_records.proofs.Whole.{cut_in_bytes, stored}
-use Rattle.pcap_records.proofs.Walk.{IsReadBefore, read_none, read_more, read_all, broken}
+use Rattle.pcap_records.proofs.Whole.{HeaderAt, stored}
+use Rattle.pcap_records.proofs.Walk.{IsReadBefore, read_none, read_more, read_all, whole_before, broken}
 
 -- ---- one record
 -- the number of four bytes at a place, and what follows it
@@ -42,38 +42,42 @@ module _ (order : Order) (nano : Bool) (file : List ℕ) (at : ℕ) (bytes : IsB
   abbrev original : ℕ
   original = number_in order 4 (drop (at + 12) file)
 
-  header_there : at + 16 ≤ length file → drop at file ≡ record_header order seconds fraction captured original ++ drop (at + 16) file
+  below : (place : ℕ) → number_in order 4 (drop place file) < 2 ^ 32
+  below place = number_in-lt order 4 (drop place file) (IsBytes-drop place file bytes)
+
+  header_there : at + 16 ≤ length file → HeaderAt order file at
   header_there there =
+      let spelled : drop at file ≡ record_header order seconds fraction captured original ++ drop (at + 16) file =
       four_at order file at (at + 4) refl (omega arith) bytes
       ∙ ap (λ rest. number_bytes order 4 seconds ++ rest) (four_at order file (at + 4) (at + 8) (omega arith) (omega arith) bytes
       ∙ ap (λ rest. number_bytes order 4 fraction ++ rest) (four_at order file (at + 8) (at + 12) (omega arith) (omega arith) bytes
       ∙ ap (λ rest. number_bytes order 4 captured ++ rest) (four_at order file (at + 12) (at + 16) (omega arith) there bytes)))
-      ∙ sym (simp append_assoc)
-
-  below : (place : ℕ) → number_in order 4 (drop place file) < 2 ^ 32
-  below place = number_in-lt order 4 (drop place file) (IsBytes-drop place file bytes)
+      ∙ sym (simp append_assoc) in
+      record {
+        captured = captured;
+        announced = record { seconds = seconds; fraction = fraction; original = original; spelled = spelled };
+        seconds = below at;
+        fraction = below (at + 4);
+        original = below (at + 12);
+        fits = below (at + 8);
+      }
 
   -- a whole record stands at a place within the file, or none does
   abbrev RecordOrNone : Type 0
   RecordOrNone = ((s : Stored) × IsStored order nano file at s) ⊎ ((fault : PcapFault) × IsBroken order (drop at file) at fault)
 
   with_header : at + 16 ≤ length file → RecordOrNone
-  with_header there = let header = header_there there in elim (cases_lt 262144 captured) [
+  with_header there = let h = header_there there in elim (cases_lt 262144 h.captured) [
     | inl long ↦ inr (
-      LongRecord at captured,
-      (
-        refl,
-        record {
-          more = drop (at + 16) file;
-          announced = record { seconds = seconds; fraction = fraction; original = original; spelled = header };
-          over = long;
-          fits = below (at + 8);
-        },
-      ),
+      LongRecord at h.captured,
+      (refl, record { more = drop (at + 16) file; announced = h.announced; over = long; fits = h.fits }),
     )
-    | inr few ↦ elim (cases_lt (length file) (at + 16 + captured)) [
-      | inl cut ↦ inr (CutRecord at, (refl, cut_in_bytes order file at seconds fraction captured original header few cut there))
-      | inr within ↦ inl (_, stored order nano file at seconds fraction captured original header (below at) (below (at + 4)) (below (at + 12)) few within)
+    | inr few ↦ elim (cases_lt (length file) (at + 16 + h.captured)) [
+      | inl cut ↦ inr (
+        CutRecord at,
+        (refl, in_bytes h.captured (drop (at + 16) file) h.announced few (omega (arith, length-drop (at + 16) file))),
+      )
+      | inr within ↦ inl (_, stored order nano file at h few within)
     ]
   ]
 
@@ -107,7 +111,7 @@ module _ (order : Order) (nano : Bool) (link : Link) (file : List ℕ) (bytes : 
   walk (suc fuel) at packets before enough = elim (cases_lt at (length file)) [
     | inr done ↦ ended at packets before done
     | inl inside ↦ elim (record_at order nano file at bytes inside) [
-      | inr none ↦ faulty none.0 (broken order nano link file at packets none.0 header before none.1)
+      | inr none ↦ faulty none.0 (broken order file at none.0 (whole_before order nano link file at packets header before) none.1)
       | inl next ↦
           let s = next.0 in
           let place = next.1.place in
@@ -147,11 +151,19 @@ module _ (order : Order) (nano : Bool) (file : List ℕ) (bytes : IsBytes file) 
   abbrev minor : ℕ
   minor = number_in order 2 (drop 6 file)
 
-  header : HasHeader file (record { order = order; nano = nano; major = major; minor = minor; link = link_in order file }) (drop 24 file)
+  abbrev said : Header
+  said = record { order = order; nano = nano; major = major; minor = minor; link = link_in order file }
+
+  header : HasHeader file said (drop 24 file)
   header =
-      has_header order nano major minor file bytes long spelled (read_two order file 4 major (omega arith) bytes refl)
-      (read_two order file 6 minor (omega arith) bytes refl) (number_in-lt order 2 (drop 4 file) (IsBytes-drop 4 file bytes))
-      (number_in-lt order 2 (drop 6 file) (IsBytes-drop 6 file bytes))
+      has_header said file bytes long (record {
+        magic_there = spelled;
+        major_there = read_two order file 4 major (omega arith) bytes refl;
+        minor_there = read_two order file 6 minor (omega arith) bytes refl;
+        major = number_in-lt order 2 (drop 4 file) (IsBytes-drop 4 file bytes);
+        minor = number_in-lt order 2 (drop 6 file) (IsBytes-drop 6 file bytes);
+        link = refl;
+      })
 
   with_unit : Reads file
   with_unit = elim (cases_eq major 2) [
@@ -161,7 +173,7 @@ module _ (order : Order) (nano : Bool) (file : List ℕ) (bytes : IsBytes file) 
       | inl four ↦ elim (link_of (link_in order file)) [
         | inr none ↦ faulty (BadLink (link_in order file)) (_, drop 24 file, header, two, four, refl, none.0, none.1)
         | inl link ↦
-            let read = good_header order nano link.0 major minor (link_in order file) file (drop 24 file) two four link.1 header in
+            let read = good_header said link.0 file (drop 24 file) two four link.1 header in
             walk order nano link.0 file bytes read (length file) 24 [] (read_none order nano file long) (omega arith)
       ]
     ]
@@ -177,8 +189,7 @@ reads file bytes = elim (cases_lt (length file) 24) [
       | inr not_little ↦ faulty (BadMagic (number_in Big 4 file)) (
         long,
         refl,
-        no_magic file (number_in Big 4 file) (number_in Little 4 file) (number_in-lt Big 4 file bytes) (number_in-lt Little 4 file bytes)
-            (spelled_four Big file (omega arith) bytes) (spelled_four Little file (omega arith) bytes) not_big not_little,
+        no_magic file not_big not_little,
       )
     ]
   ]

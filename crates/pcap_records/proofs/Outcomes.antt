@@ -1,6 +1,5 @@
 -- What is to be answered of a file: it is a capture with its packets, or has a fault, and only one of these.
 use Rattle.std.proofs.Common.{◌≡◌, ◌⊎◌, ℕ, zero, suc, ◌+◌, ◌<◌, ◌≤◌, Bool, List, [], ◌++◌, length, take, map, refl, sym, ap, subst, ◌∙◌, inl, inr, arith}
-use Rattle.std.specs.List.{AllByRecursion}
 use Rattle.std.proofs.lemmas.Bool.{cases_lt}
 use Rattle.std.proofs.lemmas.List.{append-nil, take_at}
 use Rattle.pcap_records.specs.declared.fault.PcapFault.{PcapFault}
@@ -9,13 +8,13 @@ use Rattle.pcap_records.specs.declared.link.Link.{Link}
 use Rattle.pcap_records.specs.declared.link.Link.TheVariants.{Ethernet, RawIp}
 use Rattle.pcap_records.specs.declared.order.Order.{Order}
 use Rattle.pcap_records.specs.Packets.{Packet}
-use Rattle.pcap_records.specs.Format.{number_bytes, magic, link_type, Header, header_of, Record, IsRecord, packet_of}
+use Rattle.pcap_records.specs.Format.{number_bytes, magic, link_type, Header, header_of, Record, packet_of}
 use Rattle.pcap_records.specs.Captures.{HasHeader, records_bytes, IsCapture}
-use Rattle.pcap_records.specs.Faults.{IsCut, in_header, in_bytes, IsLong, IsFault}
+use Rattle.pcap_records.specs.Faults.{IsWholeBefore, IsCut, in_header, in_bytes, IsLong, IsFault}
 use Rattle.pcap_records.proofs.Numbers.{length-number_bytes}
 use Rattle.pcap_records.proofs.Headers.{header_long}
-use Rattle.pcap_records.proofs.Once.{spelled_apart, link_once, header_once, HasNoRecord, no_record_at_end, no_record_when_cut, no_record_when_long}
-use Rattle.pcap_records.proofs.Once.{announced_once, announced_long, records_once}
+use Rattle.pcap_records.proofs.Once.{spelled_apart, link_once, header_once, no_record_at_end, no_record_when_cut, no_record_when_long}
+use Rattle.pcap_records.proofs.Once.{Announced, AreAllRecords, announced_once, announced_long, long_announced, records_once}
 
 pub data Outcome : Type 0 where
   is_capture : Bool → Link → List Packet → Outcome
@@ -100,56 +99,55 @@ not_beyond file (has_fault OutOfMemory) is s = s
 
 -- ---- what comes after the whole records
 
--- where a file is in order up to its records: these, and what follows that is no whole record
-record Ends (file : List ℕ) (order : Order) (nano : Bool) (link : Link) (records : List Record) (rest : List ℕ) : Type 0 where
-  pub each : AllByRecursion IsRecord records
-  pub header : HasHeader file (header_of order nano link) (records_bytes order records ++ rest)
-  pub no_record : HasNoRecord order rest
-
--- what the outcome says of that
-IsEnd : List ℕ → Outcome → Order → Bool → Link → List Record → List ℕ → Type 0
-IsEnd file (is_capture n l packets) order nano link records rest = (n ≡ nano) × (l ≡ link) × (packets ≡ map (packet_of nano) records) × (rest ≡ [])
-IsEnd file (has_fault (CutRecord at)) order nano link records rest = (at + length rest ≡ length file) × IsCut order rest
-IsEnd file (has_fault (LongRecord at len)) order nano link records rest = (at + length rest ≡ length file) × IsLong order rest len
-IsEnd file _ order nano link records rest = ⊥
-
-record HasEnd (file : List ℕ) (a : Outcome) : Type 0 where
+-- what a file has up to the end of its records, and what follows
+record Start : Type 0 where
   pub order : Order
   pub nano : Bool
   pub link : Link
   pub records : List Record
   pub rest : List ℕ
-  pub ends : Ends file order nano link records rest
-  pub is : IsEnd file a order nano link records rest
+
+-- where a file is in order up to there, and no whole record follows
+record Ends (file : List ℕ) (s : Start) : Type 0 where
+  pub header : HasHeader file (header_of s.order s.nano s.link) (records_bytes s.order s.records ++ s.rest)
+  pub all : AreAllRecords s.order s.records s.rest
+
+-- what the outcome says of that
+IsEnd : List ℕ → Outcome → Start → Type 0
+IsEnd file (is_capture nano link packets) s =
+    (nano ≡ s.nano) × (link ≡ s.link) × (packets ≡ map (packet_of s.nano) s.records) × (s.rest ≡ [])
+IsEnd file (has_fault (CutRecord at)) s = (at + length s.rest ≡ length file) × IsCut s.order s.rest
+IsEnd file (has_fault (LongRecord at len)) s = (at + length s.rest ≡ length file) × IsLong s.order s.rest len
+IsEnd file _ s = ⊥
+
+record HasEnd (file : List ℕ) (a : Outcome) : Type 0 where
+  pub start : Start
+  pub ends : Ends file start
+  pub is : IsEnd file a start
 
 end_of_capture : (file : List ℕ) (nano : Bool) (link : Link) (packets : List Packet) → IsCapture file nano link packets
     → HasEnd file (is_capture nano link packets)
 unfolding IsEnd
 end_of_capture file nano link packets c =
     record {
-      order = c.order;
-      nano = nano;
-      link = link;
-      records = c.records;
-      rest = [];
+      start = record { order = c.order; nano = nano; link = link; records = c.records; rest = [] };
       ends = record {
-        each = c.each;
         header = subst (λ (w : List ℕ). HasHeader file (header_of c.order nano link) w) (sym (append-nil (records_bytes c.order c.records))) c.header;
-        no_record = no_record_at_end c.order;
+        all = record { each = c.each; no_record = no_record_at_end c.order };
       };
       is = (refl, refl, c.packets_are, refl);
     }
+
+-- what a file has whole, and what follows
+abbrev start_of : (file : List ℕ) (order : Order) (at : ℕ) (rest : List ℕ) → IsWholeBefore file order at rest → Start
+start_of file order at rest w = record { order = order; nano = w.nano; link = w.link; records = w.records; rest = rest }
 
 end_when_cut : (file : List ℕ) (at : ℕ) → IsFault file (CutRecord at) → HasEnd file (has_fault (CutRecord at))
 unfolding IsEnd
 end_when_cut file at f =
     record {
-      order = f.0;
-      nano = f.2.nano;
-      link = f.2.link;
-      records = f.2.records;
-      rest = f.1;
-      ends = record { each = f.2.each; header = f.2.header; no_record = no_record_when_cut f.0 f.1 f.3 };
+      start = start_of file f.0 at f.1 f.2;
+      ends = record { header = f.2.header; all = record { each = f.2.each; no_record = no_record_when_cut f.0 f.1 f.3 } };
       is = (f.2.place, f.3);
     }
 
@@ -157,19 +155,16 @@ end_when_long : (file : List ℕ) (at len : ℕ) → IsFault file (LongRecord at
 unfolding IsEnd
 end_when_long file at len f =
     record {
-      order = f.0;
-      nano = f.2.nano;
-      link = f.2.link;
-      records = f.2.records;
-      rest = f.1;
-      ends = record { each = f.2.each; header = f.2.header; no_record = no_record_when_long f.0 f.1 len f.3 };
+      start = start_of file f.0 at f.1 f.2;
+      ends = record { header = f.2.header; all = record { each = f.2.each; no_record = no_record_when_long f.0 f.1 len f.3 } };
       is = (f.2.place, f.3);
     }
 
 cut_or_long : (order : Order) (rest : List ℕ) (len : ℕ) → IsCut order rest → IsLong order rest len → ⊥
 cut_or_long order rest len (in_header some short) long = omega (arith, announced_long order rest len long.more long.announced)
 cut_or_long order rest len (in_bytes c more announced few beyond) long =
-    omega (arith, (announced_once order rest c len more long.more announced long.announced (omega arith) long.fits).0, long.over)
+    let cut : Announced order rest = record { captured = c; more = more; header = announced; fits = omega arith } in
+    omega (arith, (announced_once order rest cut (long_announced order rest len long)).captured, long.over)
 
 end_is_not_cut : (order : Order) → IsCut order [] → ⊥
 end_is_not_cut order (in_header some short) = omega arith
@@ -181,55 +176,54 @@ end_is_not_long order len long = omega (arith, announced_long order [] len long.
 place_once : (at at' n m : ℕ) → at + n ≡ m → at' + n ≡ m → at ≡ at'
 place_once at at' n m e e' = omega arith
 
-end_decides : (file : List ℕ) (a b : Outcome) (order : Order) (nano : Bool) (link : Link) (records : List Record) (rest : List ℕ)
-    → IsEnd file a order nano link records rest → IsEnd file b order nano link records rest → a ≡ b
+end_decides : (file : List ℕ) (a b : Outcome) (s : Start) → IsEnd file a s → IsEnd file b s → a ≡ b
 unfolding IsEnd
-end_decides file (is_capture n l ps) (is_capture n' l' ps') order nano link records rest p q =
+end_decides file (is_capture n l ps) (is_capture n' l' ps') s p q =
     ap (λ x. is_capture x l ps) (p.0 ∙ sym q.0) ∙ ap (λ x. is_capture n' x ps) (p.1 ∙ sym q.1) ∙ ap (λ x. is_capture n' l' x) (p.2 ∙ sym q.2)
-end_decides file (has_fault (CutRecord at)) (has_fault (CutRecord at')) order nano link records rest p q =
-    ap (λ x. has_fault (CutRecord x)) (place_once at at' (length rest) (length file) p.0 q.0)
-end_decides file (has_fault (LongRecord at len)) (has_fault (LongRecord at' len')) order nano link records rest p q =
-    let same = (announced_once order rest len len' p.1.more q.1.more p.1.announced q.1.announced p.1.fits q.1.fits).0 in
-    ap (λ x. has_fault (LongRecord x len)) (place_once at at' (length rest) (length file) p.0 q.0) ∙ ap (λ x. has_fault (LongRecord at' x)) same
-end_decides file (is_capture n l ps) (has_fault (CutRecord at)) order nano link records rest p q =
-    absurd (end_is_not_cut order (subst (λ w. IsCut order w) p.3 q.1))
-end_decides file (is_capture n l ps) (has_fault (LongRecord at len)) order nano link records rest p q =
-    absurd (end_is_not_long order len (subst (λ w. IsLong order w len) p.3 q.1))
-end_decides file (has_fault (CutRecord at)) (is_capture n l ps) order nano link records rest p q =
-    absurd (end_is_not_cut order (subst (λ w. IsCut order w) q.3 p.1))
-end_decides file (has_fault (LongRecord at len)) (is_capture n l ps) order nano link records rest p q =
-    absurd (end_is_not_long order len (subst (λ w. IsLong order w len) q.3 p.1))
-end_decides file (has_fault (CutRecord at)) (has_fault (LongRecord at' len)) order nano link records rest p q = absurd (cut_or_long order rest len p.1 q.1)
-end_decides file (has_fault (LongRecord at len)) (has_fault (CutRecord at')) order nano link records rest p q = absurd (cut_or_long order rest len q.1 p.1)
-end_decides file (has_fault (ShortHeader len)) b order nano link records rest p q = absurd p
-end_decides file (has_fault (BadMagic found)) b order nano link records rest p q = absurd p
-end_decides file (has_fault (BadVersion major minor)) b order nano link records rest p q = absurd p
-end_decides file (has_fault (BadLink found)) b order nano link records rest p q = absurd p
-end_decides file (has_fault OutOfMemory) b order nano link records rest p q = absurd p
-end_decides file a (has_fault (ShortHeader len)) order nano link records rest p q = absurd q
-end_decides file a (has_fault (BadMagic found)) order nano link records rest p q = absurd q
-end_decides file a (has_fault (BadVersion major minor)) order nano link records rest p q = absurd q
-end_decides file a (has_fault (BadLink found)) order nano link records rest p q = absurd q
-end_decides file a (has_fault OutOfMemory) order nano link records rest p q = absurd q
+end_decides file (has_fault (CutRecord at)) (has_fault (CutRecord at')) s p q =
+    ap (λ x. has_fault (CutRecord x)) (place_once at at' (length s.rest) (length file) p.0 q.0)
+end_decides file (has_fault (LongRecord at len)) (has_fault (LongRecord at' len')) s p q =
+    let same = (announced_once s.order s.rest (long_announced s.order s.rest len p.1) (long_announced s.order s.rest len' q.1)).captured in
+    ap (λ x. has_fault (LongRecord x len)) (place_once at at' (length s.rest) (length file) p.0 q.0) ∙ ap (λ x. has_fault (LongRecord at' x)) same
+end_decides file (is_capture n l ps) (has_fault (CutRecord at)) s p q =
+    absurd (end_is_not_cut s.order (subst (λ w. IsCut s.order w) p.3 q.1))
+end_decides file (is_capture n l ps) (has_fault (LongRecord at len)) s p q =
+    absurd (end_is_not_long s.order len (subst (λ w. IsLong s.order w len) p.3 q.1))
+end_decides file (has_fault (CutRecord at)) (is_capture n l ps) s p q =
+    absurd (end_is_not_cut s.order (subst (λ w. IsCut s.order w) q.3 p.1))
+end_decides file (has_fault (LongRecord at len)) (is_capture n l ps) s p q =
+    absurd (end_is_not_long s.order len (subst (λ w. IsLong s.order w len) q.3 p.1))
+end_decides file (has_fault (CutRecord at)) (has_fault (LongRecord at' len)) s p q = absurd (cut_or_long s.order s.rest len p.1 q.1)
+end_decides file (has_fault (LongRecord at len)) (has_fault (CutRecord at')) s p q = absurd (cut_or_long s.order s.rest len q.1 p.1)
+end_decides file (has_fault (ShortHeader len)) b s p q = absurd p
+end_decides file (has_fault (BadMagic found)) b s p q = absurd p
+end_decides file (has_fault (BadVersion major minor)) b s p q = absurd p
+end_decides file (has_fault (BadLink found)) b s p q = absurd p
+end_decides file (has_fault OutOfMemory) b s p q = absurd p
+end_decides file a (has_fault (ShortHeader len)) s p q = absurd q
+end_decides file a (has_fault (BadMagic found)) s p q = absurd q
+end_decides file a (has_fault (BadVersion major minor)) s p q = absurd q
+end_decides file a (has_fault (BadLink found)) s p q = absurd q
+end_decides file a (has_fault OutOfMemory) s p q = absurd q
 
 same_end : (file : List ℕ) (a b : Outcome) → HasEnd file a → HasEnd file b → a ≡ b
-same_end file a b p q =
+same_end file a b first second =
+    let p = first.start in
+    let q = second.start in
     let head = header_once file (header_of p.order p.nano p.link) (header_of q.order q.nano q.link) (records_bytes p.order p.records ++ p.rest)
-    (records_bytes q.order q.records ++ q.rest) p.ends.header q.ends.header in
+    (records_bytes q.order q.records ++ q.rest) first.ends.header second.ends.header in
     let order : q.order ≡ p.order = sym (ap (λ (h : Header). h.order) head.0) in
     let nano : q.nano ≡ p.nano = sym (ap (λ (h : Header). h.nano) head.0) in
     let link : q.link ≡ p.link = sym (link_once p.link q.link (ap (λ (h : Header). h.link) head.0)) in
     let parts =
-    records_once p.order p.records q.records p.rest q.rest p.ends.each q.ends.each p.ends.no_record
-    (subst (λ (o : Order). HasNoRecord o q.rest) order q.ends.no_record)
+    records_once p.order p.records q.records p.rest q.rest first.ends.all (subst (λ (o : Order). AreAllRecords o q.records q.rest) order second.ends.all)
     (subst (λ (o : Order). records_bytes p.order p.records ++ p.rest ≡ records_bytes o q.records ++ q.rest) order head.1) in
-    let is : IsEnd file b p.order p.nano p.link p.records p.rest =
-    subst (λ (o : Order). IsEnd file b o p.nano p.link p.records p.rest) order
-    (subst (λ (n : Bool). IsEnd file b q.order n p.link p.records p.rest) nano
-    (subst (λ (l : Link). IsEnd file b q.order q.nano l p.records p.rest) link
-    (subst (λ (r : List Record). IsEnd file b q.order q.nano q.link r p.rest) (sym parts.0)
-    (subst (λ (w : List ℕ). IsEnd file b q.order q.nano q.link q.records w) (sym parts.1) q.is)))) in
-    end_decides file a b p.order p.nano p.link p.records p.rest p.is is
+    let start : Order → Bool → Link → List Record → List ℕ → Start = λ o n l r w. record { order = o; nano = n; link = l; records = r; rest = w } in
+    let same : start q.order q.nano q.link q.records q.rest ≡ start p.order p.nano p.link p.records p.rest =
+    ap (λ o. start o q.nano q.link q.records q.rest) order ∙ ap (λ n. start p.order n q.link q.records q.rest) nano
+    ∙ ap (λ l. start p.order p.nano l q.records q.rest) link ∙ ap (λ r. start p.order p.nano p.link r q.rest) (sym parts.0)
+    ∙ ap (λ w. start p.order p.nano p.link p.records w) (sym parts.1) in
+    end_decides file a b p first.is (subst (λ (s : Start). IsEnd file b s) same second.is)
 
 -- ---- one outcome
 

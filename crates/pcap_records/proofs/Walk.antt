@@ -98,10 +98,9 @@ read_all order nano link file at packets header before done =
       packets_are = before.packets_are;
     }
 
-whole_before : (order : Order) (nano : Bool) (link : Link) (file : List ℕ) (at place : ℕ) (packets : List Stored)
-    → HasHeader file (header_of order nano link) (drop 24 file)
-    → IsReadBefore order nano file at packets → place ≡ at → IsWholeBefore file order place (drop at file)
-whole_before order nano link file at place packets header before e =
+pub whole_before : (order : Order) (nano : Bool) (link : Link) (file : List ℕ) (at : ℕ) (packets : List Stored)
+    → HasHeader file (header_of order nano link) (drop 24 file) → IsReadBefore order nano file at packets → IsWholeBefore file order at (drop at file)
+whole_before order nano link file at packets header before =
     record {
       nano = nano;
       link = link;
@@ -112,15 +111,14 @@ whole_before order nano link file at place packets header before e =
     }
 
 -- where no whole record stands at a place, the file has that fault
-pub broken : (order : Order) (nano : Bool) (link : Link) (file : List ℕ) (at : ℕ) (packets : List Stored) (fault : PcapFault)
-    → HasHeader file (header_of order nano link) (drop 24 file)
-    → IsReadBefore order nano file at packets → IsBroken order (drop at file) at fault → IsFault file fault
-broken order nano link file at packets (ShortHeader len) header before is = absurd is
-broken order nano link file at packets (BadMagic found) header before is = absurd is
-broken order nano link file at packets (BadVersion major minor) header before is = absurd is
-broken order nano link file at packets (BadLink found) header before is = absurd is
-broken order nano link file at packets (CutRecord place) header before is =
-    (order, drop at file, whole_before order nano link file at place packets header before is.0, is.1)
-broken order nano link file at packets (LongRecord place len) header before is =
-    (order, drop at file, whole_before order nano link file at place packets header before is.0, is.1)
-broken order nano link file at packets OutOfMemory header before is = absurd is
+pub broken : (order : Order) (file : List ℕ) (at : ℕ) (fault : PcapFault) → IsWholeBefore file order at (drop at file) → IsBroken order (drop at file) at fault
+    → IsFault file fault
+broken order file at (ShortHeader len) before is = absurd is
+broken order file at (BadMagic found) before is = absurd is
+broken order file at (BadVersion major minor) before is = absurd is
+broken order file at (BadLink found) before is = absurd is
+broken order file at (CutRecord place) before is =
+    (order, drop at file, subst (λ n. IsWholeBefore file order n (drop at file)) (sym is.0) before, is.1)
+broken order file at (LongRecord place len) before is =
+    (order, drop at file, subst (λ n. IsWholeBefore file order n (drop at file)) (sym is.0) before, is.1)
+broken order file at OutOfMemory before is = absurd is

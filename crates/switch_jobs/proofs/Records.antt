@@ -8,8 +8,7 @@ use Rattle.std.proofs.lemmas.List.Sums.{sum_by-cons}
 use Rattle.pcap_records.specs.declared.order.Order.TheVariants.{Little}
 use Rattle.pcap_records.specs.Format.{number_bytes}
 use Rattle.pcap_records.specs.Output.{record_text}
-use Rattle.pcap_records.proofs.Filling.{IsFilled, filled_more, put_at}
-use Rattle.pcap_records.proofs.Numbers.{length-number_bytes}
+use Rattle.pcap_records.proofs.Filling.{IsFilled, number_more, put_at}
 use borrow.Rule.Slice.PartMut.{put_mid}
 
 -- the part of joined messages that is message k
@@ -71,6 +70,4 @@ pub number_put : (old written now new : List ℕ) (at n : ℕ) → IsFilled old 
     → new ≡ number_bytes Little 4 n ++ drop 4 (take (length now - at) (drop at now))
     → IsFilled old (written ++ number_bytes Little 4 n) (at + 4) (put_mid at (length now - at) now new)
 number_put old written now new at n filled e =
-    let bytes = number_bytes Little 4 n in
-    let put = put_at at 4 now new bytes e in
-    filled_more old written now bytes (put_mid at (length now - at) now new) at 4 (at + 4) filled (length-number_bytes Little 4 n) refl put
+    number_more old written now (put_mid at (length now - at) now new) at 4 n filled (put_at at 4 now new (number_bytes Little 4 n) e)

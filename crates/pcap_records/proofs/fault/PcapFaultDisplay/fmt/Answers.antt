@@ -12,8 +12,7 @@ pub returns-in-BadMagic-clause-writes : goal.returns-in-BadMagic-clause-writes
 returns-in-BadMagic-clause-writes g c plain done =
     let spec = format_spec 32 0 4 8 (2 ^ 64 - 1) in
     let laid : c.laid_out.result ≡ spec = c.laid_out.ensures in
-    let small : c.in-BadMagic.found < 2 ^ 32 =
-    omega arith in
+    let small : c.in-BadMagic.found < 2 ^ 32 = omega arith in
     let text = hex_text c.in-BadMagic.found in
     let whole : text_of c.args.self.now ≡ codes "bad magic " ++ text =
     ap (λ fault. text_of fault) c.in-BadMagic.is ∙ ap (λ part. codes "bad magic " ++ part) (append-nil text) in
@@ -21,6 +20,8 @@ returns-in-BadMagic-clause-writes g c plain done =
     ap (λ s. styled_digits_output c.in_radix.result s) laid
     ∙ ap (λ digits. option_map (padded_integral spec false []) digits) c.in_radix.ensures
     ∙ ap Some (eight_hex_digits c.in-BadMagic.found small) in
-    let written = subst (λ part. DisplaysOnOk g.W.Write.write_str_gives c.args.f.now c.write-in-BadMagic.result (Some (codes "bad magic ") ++? part) c.write-in-BadMagic.new.self)
-    shown c.write-in-BadMagic.ensures.writes in
-    subst (λ all. HasWritten g.W.Write.write_str_gives c.args.f.now all c.write-in-BadMagic.new.self) (sym whole) (written plain done)
+    let write = c.write-in-BadMagic in
+    let gives = g.W.Write.write_str_gives in
+    let written = subst (λ part. DisplaysOnOk gives c.args.f.now write.result (Some (codes "bad magic ") ++? part) write.new.self)
+    shown write.ensures.writes in
+    subst (λ all. HasWritten gives c.args.f.now all write.new.self) (sym whole) (written plain done)
