@@ -49,51 +49,29 @@ pub names-admitted : (queue : Kept) (packet cells : ℕ) → names_of (queue_wit
 names-admitted queue packet cells =
     map-append (λ cell. cell.name) queue.cells (cells_with_fan packet cells tt) ∙ ap (λ names. names_of queue ++ names) (names-with_fan packet cells)
 
--- the sets stay right where the output is now in its level's exactly where its queue has a cell
-AreMasks-set : (output level : ℕ) (all new : Queues) (masks : List ℕ) (mask : ℕ) → output < all.ports → level < 4 → length masks ≡ 4
-    → OthersStay output level all new → AreMasks all masks → ((y : ℕ) → y ≢ output → Has mask y ↔ Has (slice_index masks level) y) → Has mask output
-    ↔ Waits new output level → AreMasks new (slice_set masks level mask)
-AreMasks-set output level all new masks mask output_in level_in four stay old others here l y l_in =
-    elim (cases_eq l level) [
-      | inl same_level ↦
-          let set_is : slice_index (slice_set masks level mask) l ≡ mask = ap (λ i. slice_index (slice_set masks level mask) i) same_level
-          ∙ get_or-set_same masks level mask 0 (omega arith) in
-          elim (cases_eq y output) [
-            | inl same_output ↦ rw (set_is, same_level, same_output) (λ h. (omega (arith, stay.ports), here.0 h), λ s. here.1 s.1)
-            | inr other_output ↦
-                let queue_is = ap length (stay.queues y l l_in (λ e. other_output e.0)) in
-                let was : Has (slice_index masks level) y ↔ ((y < all.ports) × Waits all y l) = rw (← same_level) (old l y l_in) in
-                rw set_is (
-                  λ h. let w = was.0 ((others y other_output).0 h) in (omega (arith, w.0, stay.ports), omega (arith, w.1, queue_is)),
-                  λ s. (others y other_output).1 (was.1 (omega (arith, s.0, stay.ports), omega (arith, s.1, queue_is))),
-                )
-          ]
-      | inr other_level ↦
-          let set_is : slice_index (slice_set masks level mask) l ≡ slice_index masks l = get_or-set_other masks level l mask 0 other_level in
-          let queue_is = ap length (stay.queues y l l_in (λ e. other_level e.1)) in
-          let was = old l y l_in in
-          rw set_is (
-            λ h. let w = was.0 h in (omega (arith, w.0, stay.ports), omega (arith, w.1, queue_is)),
-            λ s. was.1 (omega (arith, s.0, stay.ports), omega (arith, s.1, queue_is)),
-          )
-    ]
-
 -- ---- a queue changes
 module _ (ports depth : ℕ) (kept : List Kept) (output level : ℕ) (new : Kept) (long : length kept ≡ 4 * ports) (output_in : output < ports)
     (level_in : level < 4) where
+  -- the queues before and after
+  abbrev before : Queues
+  before = queues_in ports depth kept
+
+  abbrev after : Queues
+  after = queues_in ports depth (slice_set kept (place_of output level) new)
+
   same_place : ring_at (slice_set kept (place_of output level) new) (place_of output level) ≡ new
   same_place = get_or-set_same kept (place_of output level) new (empty_queue 0 0) (place-lt ports output level (length kept) long output_in level_in)
 
   other_place : (place : ℕ) → place ≢ place_of output level → ring_at (slice_set kept (place_of output level) new) place ≡ ring_at kept place
   other_place place differ = get_or-set_other kept (place_of output level) place new (empty_queue 0 0) differ
 
-  pub queue-set : queue_at (queues_in ports depth (slice_set kept (place_of output level) new)) output level ≡ names_of new
+  pub queue-set : queue_at after output level ≡ names_of new
   queue-set = queue-of_ring ports depth (slice_set kept (place_of output level) new) output level ∙ ap names_of same_place
 
-  pub spare-set : spare_at (queues_in ports depth (slice_set kept (place_of output level) new)) output level ≡ new.spare
+  pub spare-set : spare_at after output level ≡ new.spare
   spare-set = spare-of_ring ports depth (slice_set kept (place_of output level) new) output level ∙ ap (λ k. k.spare) same_place
 
-  pub others-set : OthersStay output level (queues_in ports depth kept) (queues_in ports depth (slice_set kept (place_of output level) new))
+  pub others-set : OthersStay output level before after
   others-set = record {
     ports = refl;
     depth = refl;
@@ -102,6 +80,35 @@ module _ (ports depth : ℕ) (kept : List Kept) (output level : ℕ) (new : Kept
     spare = λ j l l_in differ. spare-of_ring ports depth (slice_set kept (place_of output level) new) j l
         ∙ ap (λ k. k.spare) (other_place (place_of j l) (places_differ j l output level l_in level_in differ)) ∙ sym (spare-of_ring ports depth kept j l);
   }
+
+  -- the sets stay right where the output is now in its level's exactly where its queue has a cell
+  AreMasks-set : (masks : List ℕ) (mask : ℕ) → length masks ≡ 4 → AreMasks before masks
+      → ((y : ℕ) → y ≢ output → Has mask y ↔ Has (slice_index masks level) y) → Has mask output ↔ Waits after output level
+      → AreMasks after (slice_set masks level mask)
+  AreMasks-set masks mask four old others here l y l_in =
+      elim (cases_eq l level) [
+        | inl same_level ↦
+            let set_is : slice_index (slice_set masks level mask) l ≡ mask = ap (λ i. slice_index (slice_set masks level mask) i) same_level
+            ∙ get_or-set_same masks level mask 0 (omega arith) in
+            elim (cases_eq y output) [
+              | inl same_output ↦ rw (set_is, same_level, same_output) (λ h. (output_in, here.0 h), λ s. here.1 s.1)
+              | inr other_output ↦
+                  let queue_is = ap length (others-set.queues y l l_in (λ e. other_output e.0)) in
+                  let was : Has (slice_index masks level) y ↔ ((y < ports) × Waits before y l) = rw (← same_level) (old l y l_in) in
+                  rw set_is (
+                    λ h. let w = was.0 ((others y other_output).0 h) in (w.0, omega (arith, w.1, queue_is)),
+                    λ s. (others y other_output).1 (was.1 (s.0, omega (arith, s.1, queue_is))),
+                  )
+            ]
+        | inr other_level ↦
+            let set_is : slice_index (slice_set masks level mask) l ≡ slice_index masks l = get_or-set_other masks level l mask 0 other_level in
+            let queue_is = ap length (others-set.queues y l l_in (λ e. other_level e.1)) in
+            let was = old l y l_in in
+            rw set_is (
+              λ h. let w = was.0 h in (w.0, omega (arith, w.1, queue_is)),
+              λ s. was.1 (s.0, omega (arith, s.1, queue_is)),
+            )
+      ]
 
   deep-set : HasDepth depth new → ((place : ℕ) → place < length kept → HasDepth depth (ring_at kept place)) → (place : ℕ)
       → place < length (slice_set kept (place_of output level) new) → HasDepth depth (ring_at (slice_set kept (place_of output level) new) place)
@@ -115,14 +122,12 @@ module _ (ports depth : ℕ) (kept : List Kept) (output level : ℕ) (new : Kept
       → ((y : ℕ) → y ≢ output → Has mask y ↔ Has (slice_index masks level) y) → Has mask output ↔ (0 < length new.cells)
       → AreKept ports depth (slice_set kept (place_of output level) new) (slice_set masks level mask)
   AreKept-set masks mask four old deep others here =
-      let count : length (queue_at (queues_in ports depth (slice_set kept (place_of output level) new)) output level) ≡ length new.cells = ap length queue-set
+      let count : length (queue_at after output level) ≡ length new.cells = ap length queue-set
       ∙ length-map new.cells (λ cell. cell.name) in record {
         size = old.size;
         long = length-set kept (place_of output level) new ∙ long;
         deep = deep-set deep old.deep;
-        waiting = AreMasks-set output level (queues_in ports depth kept)
-            (queues_in ports depth (slice_set kept (place_of output level) new)) masks mask output_in level_in four others-set old.waiting others
-            (λ h. omega (arith, count, here.0 h), λ s. here.1 (omega (arith, count, s)));
+        waiting = AreMasks-set masks mask four old.waiting others (λ h. omega (arith, count, here.0 h), λ s. here.1 (omega (arith, count, s)));
       }
 
 -- ---- the depth of a queue

@@ -13,6 +13,13 @@ use Rattle.voq_banks.specs.RunSteps.{cell_of, run_of, cells_left}
 use Rattle.voq_banks.specs.RingSteps.{IsRing, queue_of}
 use Rattle.voq_banks.proofs.Running.{keeps_all, cells_left-more, first_cell, last_cell, packed, IsQueue-more, IsQueue-next}
 
+-- a packet of so many cells may enter a queue of so many
+pub record MayEnter (depth count spare cells : ℕ) : Type 0 where
+  pub some : 0 < cells
+  pub few : cells ≤ 1171
+  pub place : 0 < spare
+  pub fits : count + cells ≤ depth
+
 module _ {F : Type 0} where
   -- the cells of a packet are those of its entry in the ring
   run_of-is : (w : Waiting F) → run_of w ≡ cells_with_fan w.packet w.cells w.fan
@@ -30,24 +37,21 @@ module _ {F : Type 0} where
 
   -- ---- a packet enters a queue that takes it
   -- there is a place for it
-  room : (depth gone count spare cells : ℕ) (ring : Buffer (Waiting F)) → IsRing depth gone count spare (Some ring) → 0 < cells → 0 < spare
-      → count + cells ≤ depth → length ring.items < ring.capacity
-  room depth gone count spare cells ring q some more fits =
-      omega (arith, q.taken, q.queue.counted, packed gone count ring.items q.queue)
+  pub items-more : (depth gone count spare : ℕ) (ring : Buffer (Waiting F)) (w : Waiting F) → IsRing depth gone count spare (Some ring)
+      → MayEnter depth count spare w.cells
+      → buffer (keep_last ring.capacity (ring.items ++ w ∷ [])) ring.capacity ≡ buffer (ring.items ++ w ∷ []) ring.capacity
+  items-more depth gone count spare ring w q may =
+      let room : length ring.items < ring.capacity =
+      omega (arith, q.taken, q.queue.counted, packed gone count ring.items q.queue, may.some, may.place, may.fits) in
+      ap (λ items. buffer items ring.capacity) (keeps_all ring.capacity ring.items w room)
 
-  pub items-more : (depth gone count spare : ℕ) (ring after : Buffer (Waiting F)) (w : Waiting F) → IsRing depth gone count spare (Some ring) → 0 < w.cells
-      → 0 < spare → count + w.cells ≤ depth → after ≡ buffer (keep_last ring.capacity (ring.items ++ w ∷ [])) ring.capacity
-      → after ≡ buffer (ring.items ++ w ∷ []) ring.capacity
-  items-more depth gone count spare ring after w q some more fits pushed =
-      pushed ∙ ap (λ items. buffer items ring.capacity) (keeps_all ring.capacity ring.items w (room depth gone count spare w.cells ring q some more fits))
-
-  pub IsRing-more : (depth gone count spare : ℕ) (ring : Buffer (Waiting F)) (w : Waiting F) → IsRing depth gone count spare (Some ring) → 0 < w.cells
-      → w.cells ≤ 1171 → 0 < spare → count + w.cells ≤ depth
+  pub IsRing-more : (depth gone count spare : ℕ) (ring : Buffer (Waiting F)) (w : Waiting F) → IsRing depth gone count spare (Some ring)
+      → MayEnter depth count spare w.cells
       → IsRing depth gone (count + w.cells) (spare - 1) (Some (buffer (ring.items ++ w ∷ []) ring.capacity))
-  IsRing-more depth gone count spare ring w q some few more fits = record {
-    queue = IsQueue-more gone count ring.items w some few q.queue;
-    within = fits;
-    taken = omega (arith, q.taken, length_push ring.items w);
+  IsRing-more depth gone count spare ring w q may = record {
+    queue = IsQueue-more gone count ring.items w may.some may.few q.queue;
+    within = may.fits;
+    taken = omega (arith, q.taken, length_push ring.items w, may.place);
     needed = q.needed;
   }
 
