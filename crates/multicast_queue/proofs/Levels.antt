@@ -49,41 +49,52 @@ module _ (ports depth : ℕ) (kept : List Kept) (level : ℕ) (new : Kept) where
   AreKept-set inside old one = record { long = length-set kept level new ∙ old.long; each = each-set inside old.each one }
 
 -- ---- what is kept of a queue
--- that gains the cells of a packet
-pub IsKept-admitted : (ports depth packet cells fan : ℕ) (old new : Kept) → IsKept ports depth old → 0 < cells → length old.queue.cells + cells ≤ depth
-    → fan ≢ 0 → IsAmong ports fan → new ≡ kept_with old packet cells fan → IsKept ports depth new
-IsKept-admitted ports depth packet cells fan old new kept some fits somewhere among is =
+-- that may gain the cells of a packet
+pub record MayEnter (ports depth cells fan : ℕ) (old : Kept) : Type 0 where
+  pub some : 0 < cells
+  pub fits : length old.queue.cells + cells ≤ depth
+  pub somewhere : fan ≢ 0
+  pub among : IsAmong ports fan
+
+-- and gains them
+pub IsKept-admitted : (ports depth packet cells fan : ℕ) (old : Kept) → IsKept ports depth old → MayEnter ports depth cells fan old
+    → IsKept ports depth (kept_with old packet cells fan)
+IsKept-admitted ports depth packet cells fan old kept may =
     let names : length (names_of_packet packet cells) ≡ cells = length-map-range_with_len _ 0 cells in
     let with_fan : CellName → FanCell = λ name. record { name = name; fan = fan } in
     let count = length-map (names_of_packet packet cells) with_fan in
     let long = length-append old.queue.cells (cells_with_fan packet cells fan) in
-    rw is record {
+    record {
       deep = kept.deep;
-      within = omega (arith, long, count, names);
+      within = omega (arith, long, count, names, may.fits);
       fans = HaveFans-append ports old.queue.cells (cells_with_fan packet cells fan) kept.fans
-          (HaveFans-packet ports fan (names_of_packet packet cells) somewhere among);
-      rests = IsRest-more old.queue.rest fan old.queue.cells (names_of_packet packet cells) kept.rests somewhere (omega (arith, names));
+          (HaveFans-packet ports fan (names_of_packet packet cells) may.somewhere may.among);
+      rests = IsRest-more old.queue.rest fan old.queue.cells (names_of_packet packet cells) kept.rests may.somewhere (omega (arith, names, may.some));
     }
 
 -- whose head has left, or not
-pub IsKept-served : (ports depth mask : ℕ) (done : Bool) (old new : Kept) → IsKept ports depth old → new.depth ≡ old.depth
-    → (done ≡ true → HeadLeaves old.queue new.queue) → (done ≡ false → HeadStays mask old.queue new.queue) → (done ≡ false → new.queue.rest ≢ 0)
-    → IsKept ports depth new
-IsKept-served ports depth mask true old new kept same leaves stays some =
-    let left = leaves refl in
+pub record IsServed (mask : ℕ) (done : Bool) (old new : Kept) : Type 0 where
+  pub depth : new.depth ≡ old.depth
+  pub leaves : done ≡ true → HeadLeaves old.queue new.queue
+  pub stays : done ≡ false → HeadStays mask old.queue new.queue
+  pub some : done ≡ false → new.queue.rest ≢ 0
+
+pub IsKept-served : (ports depth mask : ℕ) (done : Bool) (old new : Kept) → IsKept ports depth old → IsServed mask done old new → IsKept ports depth new
+IsKept-served ports depth mask true old new kept served =
+    let left = served.leaves refl in
     let fans : HaveFans ports new.queue.cells = subst (HaveFans ports) (sym left.cells) (HaveFans-next ports old.queue.cells kept.fans) in
     record {
-      deep = same ∙ kept.deep;
+      deep = served.depth ∙ kept.deep;
       within = omega (arith, ap length left.cells, length-drop 1 old.queue.cells, kept.within);
       fans = fans;
       rests = IsRest-next ports new.queue.rest new.queue.cells fans left.rest;
     }
-IsKept-served ports depth mask false old new kept same leaves stays some =
-    let on = stays refl in record {
-      deep = same ∙ kept.deep;
+IsKept-served ports depth mask false old new kept served =
+    let on = served.stays refl in record {
+      deep = served.depth ∙ kept.deep;
       within = omega (arith, ap length on.cells, kept.within);
       fans = subst (HaveFans ports) (sym on.cells) kept.fans;
-      rests = IsRest-on old.queue.rest new.queue.rest old.queue.cells new.queue.cells on.cells kept.rests (some refl)
+      rests = IsRest-on old.queue.rest new.queue.rest old.queue.cells new.queue.cells on.cells kept.rests (served.some refl)
           (λ output has. ((on.rest output).0 has).0);
     }
 

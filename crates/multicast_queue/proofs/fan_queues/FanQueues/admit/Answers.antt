@@ -3,7 +3,7 @@ use Rattle.rotating_pick.specs.PortSets.{Has, IsAmong}
 use Rattle.rotating_pick.proofs.Bits.{no_member-zero}
 use Rattle.multicast_queue.specs.FanQueues.{queue_at, queue_with}
 use Rattle.multicast_queue.specs.FieldSteps.{IsKept}
-use Rattle.multicast_queue.proofs.Levels.{read_is, queue-of_kept, queue-set, others-set, AreKept-set, IsKept-admitted}
+use Rattle.multicast_queue.proofs.Levels.{read_is, queue-of_kept, queue-set, others-set, AreKept-set, MayEnter, IsKept-admitted}
 use Rattle.multicast_queue.proofs.fan_queues.FanQueues.admit.Goals as goal
 
 pub returns-clause-others : goal.returns-clause-others
@@ -35,5 +35,7 @@ invariant_of-self c =
     let among : IsAmong s.ports c.args.fan = subst (λ b. IsAmong b.ports c.args.fan) (sym c.self.view_is) c.requires.among in
     let one = c.requires.several.one in
     let somewhere : c.args.fan ≢ 0 = λ none. no_member-zero one (subst (λ set. Has set one) none c.requires.several.has_one) in
+    let may : MayEnter s.ports s.depth c.args.cells c.args.fan old =
+    record { some = c.requires.some; fits = fits; somewhere = somewhere; among = among } in
     AreKept-set s.ports s.depth s.queues c.args.level _ below c.self.invariant
-    (IsKept-admitted s.ports s.depth c.args.packet c.args.cells c.args.fan old c.admit.new.self kept c.requires.some fits somewhere among c.admit.ensures)
+    (rw c.admit.ensures (IsKept-admitted s.ports s.depth c.args.packet c.args.cells c.args.fan old kept may))

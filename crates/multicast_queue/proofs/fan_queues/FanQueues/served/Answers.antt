@@ -70,4 +70,5 @@ invariant_of-self c =
     let kept : IsKept s.ports s.depth old = rw found (c.self.invariant.each c.args.level c.requires.level) in
     let after = c.serve.ensures in
     AreKept-set s.ports s.depth s.queues c.args.level _ below c.self.invariant
-    (IsKept-served s.ports s.depth c.args.mask c.serve.result old c.serve.new.self kept after.depth after.leaves after.stays after.some)
+    (IsKept-served s.ports s.depth c.args.mask c.serve.result old c.serve.new.self kept
+    (record { depth = after.depth; leaves = after.leaves; stays = after.stays; some = after.some }))
