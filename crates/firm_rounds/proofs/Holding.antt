@@ -1,6 +1,6 @@
 -- Outputs held one after another.
-use Rattle.std.proofs.Common.{◌≡◌, ℕ, ◌↔◌, ◌⊎◌, ◌∙◌, refl, subst, inl, inr}
-use Rattle.pointer_state.specs.Places.{Places, grant_of, accept_of, shared_of}
+use Rattle.std.proofs.Common.{ℕ, ◌↔◌, ◌⊎◌, ◌∙◌, refl, inl, inr}
+use Rattle.pointer_state.specs.Places.{Places}
 use Rattle.firm_rounds.specs.SlotSteps.{AreHeld}
 
 -- nothing is held
@@ -26,19 +26,17 @@ AreHeld-along P Q before after same held =
       shared = held.shared;
     }
 
--- one more output k, which holds input a at one level
-pub AreHeld-next : (P : ℕ → ℕ → ℕ → Type 0) (a k at : ℕ) (first before after : Places) → ((i level : ℕ) → P i k level → ⊥) → AreHeld P first before
-    → after.ports ≡ before.ports → grant_of after k at ≡ a → ((j other : ℕ) → (j ≡ k → other ≡ at → ⊥) → grant_of after j other ≡ grant_of before j other)
-    → ((i other : ℕ) → accept_of after i other ≡ accept_of before i other) → ((other : ℕ) → shared_of after other ≡ shared_of before other)
-    → AreHeld (λ i j level. P i j level ⊎ ((i ≡ a) × (j ≡ k) × (level ≡ at))) first after
-AreHeld-next P a k at first before after new held ports grant grants accepts shared =
+-- after some outputs were held, others are
+pub AreHeld-then : (P Q : ℕ → ℕ → ℕ → Type 0) (first before after : Places) → ((i x j level : ℕ) → P i j level → Q x j level → ⊥)
+    → AreHeld P first before → AreHeld Q before after → AreHeld (λ i j level. P i j level ⊎ Q i j level) first after
+AreHeld-then P Q first before after apart one other =
     record {
-      ports = ports ∙ held.ports;
+      ports = other.ports ∙ one.ports;
       held = λ i j level s. elim s [
-        | inl p ↦ grants j level (λ e f. new i level (subst (λ y. P i y level) e p)) ∙ held.held i j level p
-        | inr q ↦ rw (q.0, q.1, q.2) grant
+        | inl p ↦ other.stays j level (λ x q. apart i x j level p q) ∙ one.held i j level p
+        | inr q ↦ other.held i j level q
       ];
-      stays = λ j level none. grants j level (λ e f. none a (inr (refl, e, f))) ∙ held.stays j level (λ i p. none i (inl p));
-      accepts = λ i other. accepts i other ∙ held.accepts i other;
-      shared = λ other. shared other ∙ held.shared other;
+      stays = λ j level none. other.stays j level (λ i q. none i (inr q)) ∙ one.stays j level (λ i p. none i (inl p));
+      accepts = λ i level. other.accepts i level ∙ one.accepts i level;
+      shared = λ level. other.shared level ∙ one.shared level;
     }

@@ -26,7 +26,7 @@ firm_bound n rounds level i j some i_in =
       AsksWithin = RanksBelow n level i j;
       keep = firm_keep n level;
       positive = square_some n (omega arith);
-      begins = λ t places slot now quiet named. RanksBelow-all n level i j places slot.rows now.pointing i_in (now.within.ports i i_in level j Uni named) named;
+      begins = λ t places slot now quiet named. RanksBelow-all n level i j places slot.rows now.pointing (now.within.ports i i_in level j Uni named) named;
       some = λ places most rows pointing within ranks. let far = ranks.far in omega (arith, far);
       falls = λ t places slot most now quiet left ranks later follow on.
           rank_falls n t level slot.rows (first_of n now.decided.steps) slot.decision.matched places slot.decision.places

@@ -5,7 +5,6 @@ pub mod Holding
 pub mod OneDecision
 pub mod InSteps
 pub mod Computed
-pub mod PointersMoved
 pub mod OneRoundSlots
 pub mod OneRoundFamily
 pub mod HeldSlots

@@ -89,27 +89,34 @@ starts_turns P n zero x each = starts_downs P 0 (n - 1) 1 (lowers 0 0 ∷ []) (�
 starts_turns P n (suc k) x each = starts_downs P x (n - 1) 1 (lowers x 0 ∷ turns n (x + 1) k) (λ b. each (lowers x b)) (each (lowers x 0))
 
 -- Output 0 points at input x, which points at output a; input 0 and the inputs after x point at port 1. A port n is port 0.
-record IsTurn (n : ℕ) (places : Places) (x a : ℕ) : Type 0 where
+record IsTurn (n x a : ℕ) (places : Places) : Type 0 where
   switch : IsSwitch n places
   grant : grant_of places 0 0 ≡ x
   accept : accept_of places x 0 ≡ a % n
   fresh : (i : ℕ) → i < n → (i ≡ x → ⊥) → (i ≡ 0) ⊎ ((0 < x) × (x < i)) → accept_of places i 0 ≡ 1 % n
 
-suits_turn : (n : ℕ) (places : Places) (x a y : ℕ) → x < n → IsTurn n places x a → (y ≡ 0) ⊎ (accept_of places x 0 ≡ y) → Suits n places (lowers x y)
+suits_turn : (n : ℕ) (places : Places) (x a y : ℕ) → x < n → IsTurn n x a places → (y ≡ 0) ⊎ (accept_of places x 0 ≡ y) → Suits n places (lowers x y)
 suits_turn n places x a y x_in turn pointer =
     let own = distance-own n x x_in in
     let near : distance n x x ≤ distance n x 0 = omega (arith, own) in
     Suits-plain n places x y 0 (inr (subst (λ from. distance n from x ≤ distance n from 0) (sym turn.grant) near)) pointer (inl refl)
 
+-- the postings are late from any slot on, and from all pointers of which P holds
+abbrev AreLate : ℕ → (Places → Type 0) → List Posting → Type 0
+AreLate n P ps = (t : ℕ) (places : Places) → P places → IsLate n t places ps
+
 -- input x goes down
-late_downs : (n x : ℕ) (rest : List Posting) → x < n → Starts (λ next. IsPosted next x 0) rest
-    → ((t : ℕ) (places : Places) → IsTurn n places x n → IsLate n t places rest)
-    → (k a t : ℕ) (places : Places) → 0 < a → a + k ≡ n → IsTurn n places x a → IsLate n t places (downs x a k rest)
-late_downs n x rest x_in starts then zero a t places some sum turn = let e : a ≡ n = omega arith in then t places (subst (IsTurn n places x) e turn)
-late_downs n x rest x_in starts then (suc k) a t places some sum turn =
+late_downs : (n x : ℕ) (rest : List Posting) → x < n → Starts (λ next. IsPosted next x 0) rest → AreLate n (IsTurn n x n) rest
+    → (k a : ℕ) → a + 1 + k ≡ n → AreLate n (IsTurn n x (a + 1)) (downs x (a + 1) k rest)
+late_downs n x rest x_in starts then zero before sum t places turn =
+    let e : before + 1 ≡ n = omega arith in
+    then t places (subst (λ v. IsTurn n x v places) e turn)
+late_downs n x rest x_in starts then (suc k) before sum t places turn =
+    let a = before + 1 in
+    let some : 0 < a = omega arith in
     let a_in : a < n = omega arith in
     let suits = suits_turn n places x a a x_in turn (inr (turn.accept ∙ mod-eq_of_lt a_in)) in
-    let next : IsTurn n (decided n t places (lowers x a)).places x (a + 1) = record {
+    let next : IsTurn n x (a + 1) (decided n t places (lowers x a)).places = record {
       switch = IsSwitch-after n t places (lowers x a) turn.switch;
       grant = refused n t places x a turn.switch x_in a_in suits some;
       accept = accepts n t places x a turn.switch x_in a_in suits;
@@ -119,9 +126,9 @@ late_downs n x rest x_in starts then (suc k) a t places some sum turn =
     IsLate-before n t places (lowers x a) (downs x (a + 1) k rest) (serving n t places x a turn.switch x_in a_in suits)
     (left n t places x a turn.switch x_in a_in suits (inl some))
     (starts_either (λ next. a ≡ 0) (λ next. IsPosted next x 0) (downs x (a + 1) k rest) on)
-    (late_downs n x rest x_in starts then k (a + 1) (t + 1) (decided n t places (lowers x a)).places (omega arith) (omega arith) next)
+    (late_downs n x rest x_in starts then k a (omega arith) (t + 1) (decided n t places (lowers x a)).places next)
 
-module _ (n t : ℕ) (places : Places) (x a : ℕ) (some : 0 < x) (x_in : x < n) (turn : IsTurn n places x a) where
+module _ (n t : ℕ) (places : Places) (x a : ℕ) (some : 0 < x) (x_in : x < n) (turn : IsTurn n x a places) where
   suits_last : Suits n places (lowers x 0)
   suits_last = suits_turn n places x a 0 x_in turn (inl refl)
 
@@ -129,7 +136,7 @@ module _ (n t : ℕ) (places : Places) (x a : ℕ) (some : 0 < x) (x_in : x < n)
   zero_in = omega arith
 
   -- after the slot in which input x takes output 0, it is the next input's turn
-  next_turn : (k : ℕ) → x + suc k ≡ n → IsTurn n (decided n t places (lowers x 0)).places (whose (x + 1) k) 1
+  next_turn : (k : ℕ) → x + suc k ≡ n → IsTurn n (whose (x + 1) k) 1 (decided n t places (lowers x 0)).places
   next_turn zero sum =
       let round : (x + 1) % n ≡ 0 = mod_once n (x + 1) (omega arith) (omega arith) ∙ omega arith in
       record {
@@ -152,16 +159,16 @@ module _ (n t : ℕ) (places : Places) (x a : ℕ) (some : 0 < x) (x_in : x < n)
         ];
       }
 
-late_turns : (n k x t : ℕ) (places : Places) → 0 < x → x + k ≡ n → IsTurn n places (whose x k) 1 → IsLate n t places (turns n x k)
-late_turns n zero x t places some sum turn =
+late_turns : (n k x : ℕ) → 0 < x → x + k ≡ n → AreLate n (IsTurn n (whose x k) 1) (turns n x k)
+late_turns n zero x some sum t places turn =
     let zero_in : 0 < n = omega arith in
     late_downs n 0 (lowers 0 0 ∷ []) zero_in (zero_posted (lowers 0 0))
     (λ t places turn. record {
       kept = (tt, tt);
       last = (serving n t places 0 0 turn.switch zero_in zero_in (suits_turn n places 0 n 0 zero_in turn (inl refl))).served;
     })
-    (n - 1) 1 t places (omega arith) (omega arith) turn
-late_turns n (suc k) x t places some sum turn =
+    (n - 1) 0 (omega arith) t places turn
+late_turns n (suc k) x some sum t places turn =
     let x_in : x < n = omega arith in
     let later = turns n (x + 1) k in
     late_downs n x (lowers x 0 ∷ later) x_in (inl (refl, inl refl))
@@ -171,11 +178,11 @@ late_turns n (suc k) x t places some sum turn =
     IsLate-before n t places (lowers x 0) later (serving n t places x 0 turn.switch x_in zero_in suits)
     (left n t places x 0 turn.switch x_in zero_in suits (inr some))
     (starts_turns (λ next. (0 ≡ 0) ⊎ IsPosted next x 0) n k (x + 1) (λ next. inl refl))
-    (late_turns n k (x + 1) (t + 1) (decided n t places (lowers x 0)).places (omega arith) (omega arith) (next_turn n t places x n some x_in turn k sum)))
-    (n - 1) 1 t places (omega arith) (omega arith) turn
+    (late_turns n k (x + 1) (omega arith) (omega arith) (t + 1) (decided n t places (lowers x 0)).places (next_turn n t places x n some x_in turn k sum)))
+    (n - 1) 0 (omega arith) t places turn
 
 -- the pointers that it begins with
-begin_turn : (n k : ℕ) → 1 + k ≡ n → n ≤ MAX_PORTS → IsTurn n (places_at_one n) (whose 1 k) 1
+begin_turn : (n k : ℕ) → 1 + k ≡ n → n ≤ MAX_PORTS → IsTurn n (whose 1 k) 1 (places_at_one n)
 unfolding places_at_one
 begin_turn n zero sum size =
     let one_in = mod_below 1 n (omega arith) in
@@ -202,7 +209,7 @@ one_round_reached n t some size =
     let places = places_at_one n in
     let turn = begin_turn n (n - 1) (omega arith) size in
     let switch = turn.switch in
-    let late = late_turns n (n - 1) 1 t places (omega arith) (omega arith) turn in (
+    let late = late_turns n (n - 1) 1 (omega arith) (omega arith) t places turn in (
       places,
       run n t places ps,
       record {

@@ -43,28 +43,27 @@ below_all n far turns far_in turns_in =
     omega (arith, scaled)
 
 -- at first
-pub RanksBelow-all : (n level i j : ℕ) (places : Places) (rows : List Row) → ArePointing n level places → i < n → j < n → Names (row_of rows i) level Uni j
+pub RanksBelow-all : (n level i j : ℕ) (places : Places) (rows : List Row) → ArePointing n level places → j < n → Names (row_of rows i) level Uni j
     → RanksBelow n level i j places (n * n) rows
-RanksBelow-all n level i j places rows pointing i_in j_in named =
+RanksBelow-all n level i j places rows pointing j_in named =
     let far_in = distance-lt n (grant_of places j level) i (pointing.grant j j_in) in
     let turns_in = distance-lt n (accept_of places (grant_of places j level) level) j (pointing.accept (grant_of places j level) (pointing.grant j j_in)) in
     let below = below_all n (distance n (grant_of places j level) i) (distance n (accept_of places (grant_of places j level) level) j) far_in turns_in in
     record { named = named; far = omega (arith, below); near = λ asking. below }
-
--- where the input is nearer after a slot
-RanksBelow-nearer : (n level i j : ℕ) (places : Places) (most far : ℕ) (rows : List Row) → ArePointing n level places → i < n → j < n
-    → Names (row_of rows i) level Uni j → distance n (grant_of places j level) i < far → n * far < most + 1 → RanksBelow n level i j places most rows
-RanksBelow-nearer n level i j places most far rows pointing i_in j_in named nearer below =
-    let turns_in = distance-lt n (accept_of places (grant_of places j level) level) j (pointing.accept (grant_of places j level) (pointing.grant j j_in)) in
-    let lower = lower_by_far n far (distance n (grant_of places j level) i)
-    (distance n (accept_of places (grant_of places j level) level) j) most nearer below turns_in in
-    record { named = named; far = omega (arith, lower); near = λ asking. lower }
 
 module _ (n t level : ℕ) (rows : List Row) (first matched : List (Option Fed)) (before after : Places) (level_in : level < LEVELS)
     (begins : BeginsWith n t rows before first matched) (moved : AreMovedByFirm n t rows first matched before after) (pointing : ArePointing n level before)
     (pointing_after : ArePointing n level after) where
   module _ (i j most : ℕ) (i_in : i < n) (j_in : j < n) (quiet : IsQuietFor n level j rows) (ranks : RanksBelow n level i j before (most + 1) rows)
       (left : Serves matched i j level Uni → ⊥) (later : List Row) (named : Names (row_of later i) level Uni j) where
+    -- the rank falls where the input is nearer after the slot
+    falls_where_nearer : distance n (grant_of after j level) i < distance n (grant_of before j level) i → RanksBelow n level i j after most later
+    falls_where_nearer nearer =
+        let turns_in = distance-lt n (accept_of after (grant_of after j level) level) j (pointing_after.accept (grant_of after j level) (pointing_after.grant j j_in)) in
+        let lower = lower_by_far n (distance n (grant_of before j level) i) (distance n (grant_of after j level) i)
+        (distance n (accept_of after (grant_of after j level) level) j) most nearer ranks.far turns_in in
+        record { named = named; far = omega (arith, lower); near = λ asking. lower }
+
     -- the input h that is granted took the output: the grant pointer passes it, and comes nearer to i
     falls_where_accepted : (h : ℕ) → IsFirstFrom n (grant_of before j level) (λ x. Names (row_of rows x) level Uni j) h
         → Serves first h j level Uni → RanksBelow n level i j after most later
@@ -76,8 +75,7 @@ module _ (n t level : ℕ) (rows : List Row) (first matched : List (Option Fed))
         let apart : distance n (grant_of before j level) h ≡ distance n (grant_of before j level) i
         → ⊥ = λ e. other (distance-injective n (grant_of before j level) h i from_in nearest.below i_in e) in
         let passed = distance-passed n (grant_of before j level) h i from_in nearest.below i_in (omega arith) in
-        let nearer : distance n (grant_of after j level) i < distance n (grant_of before j level) i = rw place (omega arith) in
-        RanksBelow-nearer n level i j after most (distance n (grant_of before j level) i) later pointing_after i_in j_in named nearer ranks.far
+        falls_where_nearer (rw place (omega arith))
 
     -- the input h that is granted took another output y: the grant pointer comes to h, whose accept pointer passes y
     falls_where_refused : (h y : ℕ) → IsFirstFrom n (grant_of before j level) (λ x. Names (row_of rows x) level Uni j) h
@@ -98,8 +96,7 @@ module _ (n t level : ℕ) (rows : List Row) (first matched : List (Option Fed))
               let own = distance-own n (grant_of before j level) from_in in
               let apart : distance n (grant_of before j level) (grant_of before j level) ≡ distance n (grant_of before j level) h
               → ⊥ = λ e. away (distance-injective n (grant_of before j level) (grant_of before j level) h from_in from_in h_in e) in
-              let nearer : distance n (grant_of after j level) i < distance n (grant_of before j level) i = rw place (omega arith) in
-              RanksBelow-nearer n level i j after most (distance n (grant_of before j level) i) later pointing_after i_in j_in named nearer ranks.far
+              falls_where_nearer (rw place (omega arith))
           | inl at ↦
               let P : ℕ → Type 0 = λ g. Names (row_of rows g) level Uni j → n * distance n g i + distance n (accept_of before g level) j < most + 1 in
               let near : n * distance n h i + distance n (accept_of before h level) j < most + 1 = subst P at ranks.near nearest.member in

@@ -3,7 +3,7 @@ use Rattle.std.proofs.lemmas.Bool.{cases_eq}
 use Rattle.rotating_pick.specs.PortSets.{Has}
 use Rattle.slot_match.proofs.Sets.{zero-has}
 use Rattle.eslip_rounds.specs.Refusals.{Tells}
-use Rattle.firm_rounds.proofs.Holding.{AreHeld-none, AreHeld-along, AreHeld-next}
+use Rattle.firm_rounds.proofs.Holding.{AreHeld-none, AreHeld-along, AreHeld-then}
 use Rattle.firm_rounds.proofs.slot.hold.Goals as goal
 
 pub loop-j-init : goal.loop-j-init
@@ -42,8 +42,14 @@ loop-j-preserved c =
                   inr (sym told.1, same, sym told.2)
             ],
           ))
-          (AreHeld-next P a j at c.args.p.now c.loop-j.p c.held.new.self
-          (λ i level p. p.1 waits) known.held c.held.ensures.ports c.held.ensures.grant c.held.ensures.grants c.held.ensures.accepts c.held.ensures.shared);
+          (AreHeld-then P (λ i y level. (i ≡ a) × (y ≡ j) × (level ≡ at)) c.args.p.now c.loop-j.p c.held.new.self
+          (λ i x y level p q. p.1 (subst (Has rest) (sym q.1) waits)) known.held (record {
+            ports = c.held.ensures.ports;
+            held = λ i y level q. rw (q.0, q.1, q.2) c.held.ensures.grant;
+            stays = λ y level none. c.held.ensures.grants y level (λ e f. none a (refl, e, f));
+            accepts = c.held.ensures.accepts;
+            shared = c.held.ensures.shared;
+          }));
       at_ports = c.held.ensures.at_ports;
     }
 
