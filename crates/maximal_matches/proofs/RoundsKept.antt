@@ -14,10 +14,13 @@ use Rattle.eslip_rounds.specs.Slots.{Decision, Moving, IsSlotBy}
 use Rattle.eslip_rounds.proofs.Running.{AreRounds-keep}
 use Rattle.eslip_rounds.proofs.Unique.{IsRound-only}
 
+-- every pair of the one match is one of the other
+abbrev pub AreIn : List (Option Fed) → List (Option Fed) → Type 0
+AreIn some more = (i j level : ℕ) (kind : Kind) → Serves some i j level kind → Serves more i j level kind
+
 module _ (n t : ℕ) (rows : List Row) (places : Places) where
   kept_by_more : (before : List (Option Fed)) (xs ys : List (List (Option Fed))) → length xs ≤ length ys → AreRounds n t rows places before xs
-      → AreRounds n t rows places before ys → (i j level : ℕ) (kind : Kind) → Serves (last_of before xs) i j level kind
-      → Serves (last_of before ys) i j level kind
+      → AreRounds n t rows places before ys → AreIn (last_of before xs) (last_of before ys)
   kept_by_more before [] ys long a b i j level kind s = AreRounds-keep n t rows places before ys b i j level kind s
   kept_by_more before (x ∷ xs) [] long a b i j level kind s = absurd (omega arith)
   kept_by_more before (x ∷ xs) (y ∷ ys) long a b i j level kind s =
@@ -35,7 +38,7 @@ module _ (n t : ℕ) (rows : List Row) (places : Places) where
   length-slot Moves rounds a slot = ap length slot.result ∙ length-last (unmatched n) slot.steps (IsMatch-unmatched n).count slot.chain
 
   pub Serves-more : (Moves Others : Moving) (rounds more : ℕ) (a b : Decision) → rounds ≤ more → IsSlotBy Moves n rounds t rows places a
-      → IsSlotBy Others n more t rows places b → (i j level : ℕ) (kind : Kind) → Serves a.matched i j level kind → Serves b.matched i j level kind
+      → IsSlotBy Others n more t rows places b → AreIn a.matched b.matched
   Serves-more Moves Others rounds more a b at_most x y i j level kind s =
       let fewer = x.count in
       let most = y.count in
