@@ -59,9 +59,10 @@ module _ (n t level : ℕ) (rows : List Row) (first matched : List (Option Fed))
     -- the rank falls where the input is nearer after the slot
     falls_where_nearer : distance n (grant_of after j level) i < distance n (grant_of before j level) i → RanksBelow n level i j after most later
     falls_where_nearer nearer =
-        let turns_in = distance-lt n (accept_of after (grant_of after j level) level) j (pointing_after.accept (grant_of after j level) (pointing_after.grant j j_in)) in
-        let lower = lower_by_far n (distance n (grant_of before j level) i) (distance n (grant_of after j level) i)
-        (distance n (accept_of after (grant_of after j level) level) j) most nearer ranks.far turns_in in
+        let g : ℕ = grant_of after j level in
+        let turns_in = distance-lt n (accept_of after g level) j (pointing_after.accept g (pointing_after.grant j j_in)) in
+        let lower = lower_by_far n (distance n (grant_of before j level) i) (distance n g i) (distance n (accept_of after g level) j) most nearer ranks.far
+        turns_in in
         record { named = named; far = omega (arith, lower); near = λ asking. lower }
 
     -- the input h that is granted took the output: the grant pointer passes it, and comes nearer to i
