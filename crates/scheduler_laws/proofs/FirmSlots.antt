@@ -150,7 +150,8 @@ module _ (rounds n t : ℕ) (places : Places) (p : Plan) (some : 0 < n) (some_ro
       → IsFirmLate rounds n (t + 1) (firm_decided rounds n t places p).places rest → IsFirmLate rounds n t places (p ∷ rest)
   late_first rest i j settled is aside follows late =
       let step = firm_step_of in
-      IsLateBy-before n (firm_decided rounds n) t places p rest (step.serving settled) follows (left_aside i j aside (step.serves i j is)) late
+      IsLateBy-before n (firm_decided rounds n) t places p rest follows
+      (record { serving = step.serving settled; left = left_aside i j aside (step.serves i j is) }) late
 
   -- one slot more in front, whose second round does
   pub late_second : (rest : List Plan) (w j : ℕ) → 1 < rounds → IsSecond n places p w j → Each (IsSettled (also p w j)) (asked p) → IsAside w j
@@ -165,8 +166,8 @@ module _ (rounds n t : ℕ) (places : Places) (p : Plan) (some : 0 < n) (some_ro
         | inl s ↦ subst (λ v. Serves matched v y 0 Uni) (sym s.0) (subst (λ v. Serves matched w v 0 Uni) (sym s.1) last)
         | inr earlier ↦ step.serves x y earlier
       ] in
-      IsLateBy-before n (firm_decided rounds n) t places (also p w j) rest (serving_by (also p w j) refl serves settled) follows
-      (left_aside w j aside last) late
+      IsLateBy-before n (firm_decided rounds n) t places (also p w j) rest follows
+      (record { serving = serving_by (also p w j) refl serves settled; left = left_aside w j aside last }) late
 
   -- one slot more in front, of one round, which does not serve the queue
   pub late_alone : (rest : List Plan) → rounds ≡ 1 → (In 0 0 p.serves → ⊥) → Starts (Follows p) rest
@@ -179,7 +180,8 @@ module _ (rounds n t : ℕ) (places : Places) (p : Plan) (some : 0 < n) (some_ro
         only = λ i j level kind s. only i j level kind (subst (λ m. Serves m i j level kind) (sym first_is) s);
         asking = λ i j is. let at = each (IsPlaced n p) p.serves suits.placed i j is in at.2;
       } in
-      IsLateBy-before n (firm_decided rounds n) t places p rest serving follows (λ s. left (serving.only 0 0 0 Uni s)) late
+      IsLateBy-before n (firm_decided rounds n) t places p rest follows
+      (record { serving = serving; left = λ s. left (serving.only 0 0 0 Uni s) }) late
 
   -- the last slot, which serves queue (0, 0)
   pub late_last : Each (IsSettled p) (asked p) → In 0 0 p.serves → IsFirmLate rounds n t places (p ∷ [])

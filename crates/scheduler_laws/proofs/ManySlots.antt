@@ -14,7 +14,7 @@ use Rattle.eslip_rounds.proofs.Settling.{IsSlot-decision_of, AreAtPorts-decision
 use Rattle.eslip_rounds.proofs.Unique.{IsMatch-slot, Serves-named_by}
 use Rattle.service_bound.proofs.LaterRounds.{first_of, BeginsWith, BeginsWith-slot}
 use Rattle.service_bound.proofs.PostedRuns.{IsSwitch}
-use Rattle.scheduler_laws.proofs.Plans.{In, IsServing, Each, Plan, asked, rows_of, AreWithin-rows}
+use Rattle.scheduler_laws.proofs.Plans.{In, IsServing, IsServingOthers, Each, Plan, asked, rows_of, AreWithin-rows}
 use Rattle.scheduler_laws.proofs.PlannedSlots.{Suits, served_it, only_it}
 use Rattle.scheduler_laws.proofs.SecondRounds.{IsSettled, serving_settled, IsSecond, serves_second}
 
@@ -94,9 +94,11 @@ module _ (rounds n t : ℕ) (places : Places) (p : Plan) (some : 0 < n) (switch 
   }
 
   -- queue (0, 0) is not served where input 0 takes another output
-  pub left_by_input : (y : ℕ) → 0 < y → In 0 y p.serves → Serves (decided_in rounds n t places p).matched 0 0 0 Uni → ⊥
-  left_by_input y more is s = let e = once_unicast n (decided_in rounds n t places p).matched whole 0 y 0 0 (begins.stays 0 y 0 Uni (served 0 y is)) s in
-      omega arith
+  pub serving_others : (y : ℕ) → 0 < y → In 0 y p.serves → Each (IsSettled p) (asked p) → IsServingOthers p (decided_in rounds n t places p).matched
+  serving_others y more is settled = record {
+    serving = many_step_of.serving settled;
+    left = λ s. let e = once_unicast n (decided_in rounds n t places p).matched whole 0 y 0 0 (begins.stays 0 y 0 Uni (served 0 y is)) s in omega arith;
+  }
 
   -- the second round serves input w and output j
   pub served_second : 1 < rounds → (w j : ℕ) → IsSecond n places p w j → Serves (decided_in rounds n t places p).matched w j 0 Uni

@@ -8,7 +8,7 @@ use Rattle.pointer_state.specs.Places.{Places, grant_of, accept_of}
 use Rattle.scheduler_laws.proofs.Plans.{Plan}
 use Rattle.scheduler_laws.proofs.NextPlans.{Follows, Starts}
 use Rattle.scheduler_laws.proofs.PlannedRuns.{IsLateBy-before, IsLateBy-last}
-use Rattle.scheduler_laws.proofs.ManySlots.{decided_in, IsSwitch-after_in, many_step_of, left_by_input}
+use Rattle.scheduler_laws.proofs.ManySlots.{decided_in, IsSwitch-after_in, many_step_of, serving_others}
 use Rattle.scheduler_laws.proofs.Shapes.{takes, ends, passes, suits_takes, suits_ends}
 use Rattle.scheduler_laws.proofs.MoreShapes.{shares, closes, resets, readies, readies_too, crosses_by, Descent, suits_readies}
 use Rattle.scheduler_laws.proofs.MoreShapes.{suits_readies_too, suits_crosses_by}
@@ -57,8 +57,8 @@ module _ (rounds n l : ℕ) (two : 1 < rounds) (sum : l + 1 ≡ n) (high : 2 < l
               subst (λ v. grant_of after v 0 ≡ 1) same (step.granted 0 y (inl (refl, refl)) ∙ mod-eq_of_lt (omega arith))
         ];
       } in
-      IsLateBy-before n (decided_in rounds n) t places it (downs 0 (y + 1) k rest) (step.serving (settles_takes y)) (follows some_y k starts)
-      (left_by_input rounds n t places it some base.switch suits some_rounds y some_y (inl (refl, refl)))
+      IsLateBy-before n (decided_in rounds n) t places it (downs 0 (y + 1) k rest) (follows some_y k starts)
+      (serving_others rounds n t places it some base.switch suits some_rounds y some_y (inl (refl, refl)) (settles_takes y))
       (late_lowers p rest some_p k (y + 1) (omega arith) (λ a is. starts a (omega arith)) (subst (λ v. AreLateIn rounds n (IsBack n p p v) rest) e then)
       (t + 1) after next) where
         follows : 0 < y → (k : ℕ) → ((a : ℕ) → a + 1 ≡ y + suc k → Starts (Follows (takes 0 a)) rest) → Starts (Follows (takes 0 y)) (downs 0 (y + 1) k rest)
@@ -93,8 +93,8 @@ module _ (rounds n l : ℕ) (two : 1 < rounds) (sum : l + 1 ≡ n) (high : 2 < l
       let suits = suits_readies n places l high (omega arith) (back.at ∙ mod-eq_of_lt (omega arith)) (back.held high) in
       let step = many_step_of rounds n t places it some base.switch suits some_rounds in
       let after = (decided_in rounds n t places it).places in
-      IsLateBy-before n (decided_in rounds n) t places it rest (step.serving (settles_readies l)) starts
-      (left_by_input rounds n t places it some base.switch suits some_rounds l (omega arith) (inl (refl, refl)))
+      IsLateBy-before n (decided_in rounds n) t places it rest starts
+      (serving_others rounds n t places it some base.switch suits some_rounds l (omega arith) (inl (refl, refl)) (settles_readies l))
       (then (t + 1) after (record {
         switch = IsSwitch-after_in rounds n t places it base.switch;
         grant = step.grant_stays 0
@@ -114,8 +114,8 @@ module _ (rounds n l : ℕ) (two : 1 < rounds) (sum : l + 1 ≡ n) (high : 2 < l
       let suits = suits_readies_too n places l high (omega arith) (back.at ∙ mod-eq_of_lt (omega arith)) (back.held high) in
       let step = many_step_of rounds n t places it some base.switch suits some_rounds in
       let after = (decided_in rounds n t places it).places in
-      IsLateBy-before n (decided_in rounds n) t places it rest (step.serving (settles_readies_too l 2)) starts
-      (left_by_input rounds n t places it some base.switch suits some_rounds l (omega arith) (inl (refl, refl)))
+      IsLateBy-before n (decided_in rounds n) t places it rest starts
+      (serving_others rounds n t places it some base.switch suits some_rounds l (omega arith) (inl (refl, refl)) (settles_readies_too l 2))
       (then (t + 1) after (record {
         switch = IsSwitch-after_in rounds n t places it base.switch;
         grant = step.grant_stays 0 (λ i is. elim is [
@@ -211,11 +211,11 @@ module _ (rounds n l : ℕ) (two : 1 < rounds) (sum : l + 1 ≡ n) (high : 2 < l
       let step = many_step_of rounds n t places it some base.switch suits some_rounds in
       let after = (decided_in rounds n t places it).places in
       let u = before 1 (l - 1) in
-      IsLateBy-before n (decided_in rounds n) t places it (body l) (step.serving (settles_crosses l l))
+      IsLateBy-before n (decided_in rounds n) t places it (body l)
       (starts_more_sharings (Follows it) l l (1 + 1) (l - (1 + 1))
       (closes l l 1 u ∷ climbs l 1 1 (l - 1) (passes 1 ∷ backs 3 2 (l - 2) (readies_too l 2 ∷ levels l 2 (l - 2)))) (omega arith)
       (crosses_by_shares l l (omega arith) (omega arith)))
-      (left_by_input rounds n t places it some base.switch suits some_rounds l (omega arith) (inl (refl, refl)))
+      (serving_others rounds n t places it some base.switch suits some_rounds l (omega arith) (inl (refl, refl)) (settles_crosses l l))
       (late_body (t + 1) after (record {
         base = record {
           switch = IsSwitch-after_in rounds n t places it base.switch;

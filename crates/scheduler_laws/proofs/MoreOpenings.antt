@@ -21,7 +21,7 @@ use Rattle.scheduler_laws.proofs.Plans.{Plan, names, AreWithin-rows, IsClean-row
 use Rattle.scheduler_laws.proofs.NextPlans.{Follows, Starts}
 use Rattle.scheduler_laws.proofs.PlannedRuns.{run, length-run, All-run, IsLateBy-before, opens_run, LeadsBy, leads_none}
 use Rattle.scheduler_laws.proofs.PlannedRuns.{leads_before, led, kept_all}
-use Rattle.scheduler_laws.proofs.ManySlots.{decided_in, slot_decided_in, IsSwitch-after_in, many_step_of, left_by_input}
+use Rattle.scheduler_laws.proofs.ManySlots.{decided_in, slot_decided_in, IsSwitch-after_in, many_step_of, serving_others}
 use Rattle.scheduler_laws.proofs.Shapes.{nothing, takes, ends, again, passes, wins, both, suits_takes, suits_ends, suits_again, suits_both, suits_wins}
 use Rattle.scheduler_laws.proofs.MoreShapes.{closes, readies, readies_too, crosses_by}
 use Rattle.scheduler_laws.proofs.Settled.{settles_takes, settles_ends, settles_again, settles_wins, settles_both}
@@ -149,8 +149,8 @@ module _ (rounds n l : ℕ) (two : 1 < rounds) (sum : l + 1 ≡ n) (high : 2 < l
             (λ j is. elim is [ inl s ↦ let e = s.0 in omega arith | inr more ↦ elim more [ inl s ↦ let e = s.0 in omega arith | inr none ↦ none ] ])
             ∙ base.fresh i i_low i_high;
       } in
-      IsLateBy-before n (decided_in rounds n) t places it (boths l (y + 1) k (crosses_by l l ∷ body l)) (step.serving (settles_both y l)) (follows k all)
-      (left_by_input rounds n t places it (omega arith) base.switch suits (omega arith) y (omega arith) (inl (refl, refl)))
+      IsLateBy-before n (decided_in rounds n) t places it (boths l (y + 1) k (crosses_by l l ∷ body l)) (follows k all)
+      (serving_others rounds n t places it (omega arith) base.switch suits (omega arith) y (omega arith) (inl (refl, refl)) (settles_both y l))
       (late_boths k (y + 1) (t + 1) after (omega arith) (omega arith) next (step.accepted 0 y (inl (refl, refl)) ∙ mod-eq_of_lt (omega arith))
       (omega arith)) where
         follows : (k : ℕ) → y + suc k ≡ l → Starts (Follows (both y l)) (boths l (y + 1) k (crosses_by l l ∷ body l))
@@ -184,11 +184,11 @@ module _ (rounds n l : ℕ) (two : 1 < rounds) (sum : l + 1 ≡ n) (high : 2 < l
       let fresh : (i : ℕ) → 1 ≤ i → i < n → accept_of after i 0 ≡ 1 = λ i i_low i_high. step.accept_stays i
       (λ j is. elim is [ inl s ↦ let e = s.0 in omega arith | inr none ↦ none ]) ∙ base.fresh i i_low i_high in
       let near : distance n (accept_of after l 0) 1 ≡ 0 = ap (λ f. distance n f 1) (fresh l (omega arith) (omega arith)) ∙ distance-own n 1 (omega arith) in
-      IsLateBy-before n (decided_in rounds n) t places first (it ∷ rest) (taken.serving (settles_takes 1)) (takes_wins 1 2 l (omega arith) (omega arith))
-      (left_by_input rounds n t places first (omega arith) start.switch down (omega arith) 1 (omega arith) (inl (refl, refl)))
-      (IsLateBy-before n (decided_in rounds n) (t + 1) before it rest (step.serving (settles_wins 2 l))
+      IsLateBy-before n (decided_in rounds n) t places first (it ∷ rest) (takes_wins 1 2 l (omega arith) (omega arith))
+      (serving_others rounds n t places first (omega arith) start.switch down (omega arith) 1 (omega arith) (inl (refl, refl)) (settles_takes 1))
+      (IsLateBy-before n (decided_in rounds n) (t + 1) before it rest
       (starts_boths (Follows it) l (l - 3) 3 last (wins_both 3 l (omega arith)) (wins_crosses_by l l (omega arith)))
-      (left_by_input rounds n (t + 1) before it (omega arith) base.switch suits (omega arith) 2 (omega arith) (inl (refl, refl)))
+      (serving_others rounds n (t + 1) before it (omega arith) base.switch suits (omega arith) 2 (omega arith) (inl (refl, refl)) (settles_wins 2 l))
       (late_boths (l - 3) 3 (t + 1 + 1) after (omega arith) (omega arith) (record {
         switch = IsSwitch-after_in rounds n (t + 1) before it base.switch;
         grant = step.grant_stays 0 (λ i is. elim is [ inl s ↦ let e = s.1 in omega arith | inr none ↦ none ]) ∙ base.grant;

@@ -23,7 +23,7 @@ use Rattle.service_bound.proofs.PostedRuns.{IsSwitch}
 use Rattle.scheduler_laws.proofs.Plans.{In, Plan}
 use Rattle.scheduler_laws.proofs.NextPlans.{Follows, Starts}
 use Rattle.scheduler_laws.proofs.PlannedRuns.{IsLateBy, IsLateBy-before}
-use Rattle.scheduler_laws.proofs.ManySlots.{decided_in, IsSwitch-after_in, many_step_of, serving_by, left_by_input, served_second}
+use Rattle.scheduler_laws.proofs.ManySlots.{decided_in, IsSwitch-after_in, many_step_of, serving_by, serving_others, served_second}
 use Rattle.scheduler_laws.proofs.Shapes.{takes, ends, passes, suits_passes, at_first}
 use Rattle.scheduler_laws.proofs.MoreShapes.{shares, closes, joins, joins_first, resets, readies, readies_too, CanShare, suits_shares, Descent, suits_closes}
 use Rattle.scheduler_laws.proofs.MoreShapes.{suits_joins, second_joins, suits_resets}
@@ -209,8 +209,8 @@ module _ (rounds n l : ℕ) (two : 1 < rounds) (sum : l + 1 ≡ n) (high : 1 < l
             ∙ going.held later
         | inr now ↦ let same : y ≡ d.f = omega arith in subst (λ v. grant_of after v 0 ≡ (d.x + 1) % n) same (step.granted d.x y (inl (refl, refl)))
       ] in
-      IsLateBy-before n (decided_in rounds n) t places it rest (step.serving (settles_shares l d.x y)) starts
-      (left_by_input rounds n t places it some base.switch suits some_rounds l (omega arith) (inr (inl (refl, refl))))
+      IsLateBy-before n (decided_in rounds n) t places it rest starts
+      (serving_others rounds n t places it some base.switch suits some_rounds l (omega arith) (inr (inl (refl, refl))) (settles_shares l d.x y))
       (then (t + 1) after (record {
         base = next;
         beyond = omega arith;
@@ -238,8 +238,8 @@ module _ (rounds n l : ℕ) (two : 1 < rounds) (sum : l + 1 ≡ n) (high : 1 < l
             (λ j is. elim is [ inl s ↦ let e = s.0 in omega arith | inr more ↦ elim more [ inl s ↦ let e = s.0 in omega arith | inr none ↦ none ] ])
             ∙ base.fresh i i_low i_high;
       } in
-      IsLateBy-before n (decided_in rounds n) t places it rest (step.serving (settles_closes l d.x d.f u)) starts
-      (left_by_input rounds n t places it some base.switch suits some_rounds d.f d.some_f (inr (inl (refl, refl))))
+      IsLateBy-before n (decided_in rounds n) t places it rest starts
+      (serving_others rounds n t places it some base.switch suits some_rounds d.f d.some_f (inr (inl (refl, refl))) (settles_closes l d.x d.f u))
       (then (t + 1) after (next, step.granted d.x l (inl (refl, refl))))
 
   -- input x takes the outputs from y on
@@ -300,9 +300,10 @@ module _ (rounds n l : ℕ) (two : 1 < rounds) (sum : l + 1 ≡ n) (high : 1 < l
         fresh = λ i i_low i_high. step.accept_stays i (λ j is. elim is [ inl s ↦ let e = s.0 in omega arith | inr none ↦ none ])
             ∙ base.fresh i i_low (omega arith);
       } in
-      IsLateBy-before n (decided_in rounds n) t places (joins x f) rest
-      (serving_by rounds n t places it some base.switch suits some_rounds (joins x f) refl serves (settles_joins x f)) starts
-      (λ zero_served. let e = (Serves-once matched 0 (x + 1) 0 0 0 Uni Uni second zero_served).0 in omega arith)
+      IsLateBy-before n (decided_in rounds n) t places (joins x f) rest starts (record {
+        serving = serving_by rounds n t places it some base.switch suits some_rounds (joins x f) refl serves (settles_joins x f);
+        left = λ zero_served. let e = (Serves-once matched 0 (x + 1) 0 0 0 Uni Uni second zero_served).0 in omega arith;
+      })
       (then after (record {
         base = next;
         beyond = omega arith;
@@ -334,8 +335,8 @@ module _ (rounds n l : ℕ) (two : 1 < rounds) (sum : l + 1 ≡ n) (high : 1 < l
       let it = passes p in
       let suits = suits_passes n places p some_p p_in (at.1 ∙ mod-eq_of_lt p_in) in
       let step = many_step_of rounds n t places it some at.0 suits some_rounds in
-      IsLateBy-before n (decided_in rounds n) t places it rest (step.serving (settles_passes p)) starts
-      (left_by_input rounds n t places it some at.0 suits some_rounds 1 (omega arith) (inr (inl (refl, refl))))
+      IsLateBy-before n (decided_in rounds n) t places it rest starts
+      (serving_others rounds n t places it some at.0 suits some_rounds 1 (omega arith) (inr (inl (refl, refl))) (settles_passes p))
       (then (t + 1) (decided_in rounds n t places it).places (record {
         base = record {
           switch = IsSwitch-after_in rounds n t places it at.0;
@@ -390,6 +391,6 @@ module _ (rounds n l : ℕ) (two : 1 < rounds) (sum : l + 1 ≡ n) (high : 1 < l
         | inr now ↦ let same : y ≡ 2 = omega arith in
             subst (λ v. grant_of after v 0 ≡ 1) same (step.granted 0 y (inl (refl, refl)) ∙ mod-eq_of_lt (omega arith))
       ] in
-      IsLateBy-before n (decided_in rounds n) t places it rest (step.serving (settles_resets y w)) starts
-      (left_by_input rounds n t places it some base.switch suits some_rounds y (omega arith) (inl (refl, refl)))
+      IsLateBy-before n (decided_in rounds n) t places it rest starts
+      (serving_others rounds n t places it some base.switch suits some_rounds y (omega arith) (inl (refl, refl)) (settles_resets y w))
       (then (t + 1) after (record { base = next; beyond = omega arith; at = step.accepted 0 y (inl (refl, refl)); held = held_on }))

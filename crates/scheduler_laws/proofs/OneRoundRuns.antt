@@ -30,7 +30,8 @@ IsLate n = IsLateBy n (decided n)
 pub IsLate-before : (n t : ℕ) (places : Places) (p : Plan) (ps : List Plan) → IsStep n t places p → Starts (Follows p) ps → (In 0 0 p.serves → ⊥)
     → IsLate n (t + 1) (decided n t places p).places ps → IsLate n t places (p ∷ ps)
 IsLate-before n t places p ps step follows left late =
-    IsLateBy-before n (decided n) t places p ps step.serving follows (λ served. left (step.serving.only 0 0 0 Uni served)) late
+    IsLateBy-before n (decided n) t places p ps follows
+    (record { serving = step.serving; left = λ served. left (step.serving.only 0 0 0 Uni served) }) late
 
 -- the last slot, which serves it
 pub IsLate-last : (n t : ℕ) (places : Places) (p : Plan) → IsStep n t places p → In 0 0 p.serves → IsLate n t places (p ∷ [])

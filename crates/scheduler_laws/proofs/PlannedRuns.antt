@@ -15,7 +15,7 @@ use Rattle.service_bound.specs.Windows.{AreKept, GainAtMostOne, AreAtLineRate, I
 use Rattle.service_bound.specs.Latest.{ServeLast}
 use Rattle.service_bound.proofs.PostedRuns.{IsSwitch}
 use Rattle.scheduler_laws.specs.Reached.{AskAtMostOne}
-use Rattle.scheduler_laws.proofs.Plans.{In, IsServing, Each, each, Plan, asked, rows_of, posted, names}
+use Rattle.scheduler_laws.proofs.Plans.{In, IsServing, IsServingOthers, Each, each, Plan, asked, rows_of, posted, names}
 use Rattle.scheduler_laws.proofs.NextPlans.{IsOn, IsGained, IsApart, AreApart, Follows, Starts}
 use Rattle.scheduler_laws.proofs.Shapes.{nothing}
 use Rattle.scheduler_laws.proofs.FedRuns.{IsFedRun, IsFedRun-before}
@@ -115,12 +115,11 @@ pub record IsLateBy (n : ℕ) (rule : Rule) (t : ℕ) (places : Places) (ps : Li
   pub last : ServeLast 0 0 0 (run n rule t places ps)
 
 -- one slot more in front, which does not serve the queue
-pub IsLateBy-before : (n : ℕ) (rule : Rule) (t : ℕ) (places : Places) (p : Plan) (ps : List Plan) → IsServing p (rule t places p).matched
-    → Starts (Follows p) ps → (Serves (rule t places p).matched 0 0 0 Uni → ⊥) → IsLateBy n rule (t + 1) (rule t places p).places ps
-    → IsLateBy n rule t places (p ∷ ps)
-IsLateBy-before n rule t places p [] serving follows left late = absurd late.last
-IsLateBy-before n rule t places p (next ∷ ps) serving follows left late =
-    record { run_kept = IsKeptRun-before n rule t places p (next ∷ ps) serving follows late.run_kept; last = (left, late.last) }
+pub IsLateBy-before : (n : ℕ) (rule : Rule) (t : ℕ) (places : Places) (p : Plan) (ps : List Plan) → Starts (Follows p) ps
+    → IsServingOthers p (rule t places p).matched → IsLateBy n rule (t + 1) (rule t places p).places ps → IsLateBy n rule t places (p ∷ ps)
+IsLateBy-before n rule t places p [] follows others late = absurd late.last
+IsLateBy-before n rule t places p (next ∷ ps) follows others late =
+    record { run_kept = IsKeptRun-before n rule t places p (next ∷ ps) others.serving follows late.run_kept; last = (others.left, late.last) }
 
 -- the last slot, which serves it
 pub IsLateBy-last : (n : ℕ) (rule : Rule) (t : ℕ) (places : Places) (p : Plan) → IsServing p (rule t places p).matched → In 0 0 p.serves

@@ -73,6 +73,11 @@ pub record IsServing (p : Plan) (matched : List (Option Fed)) : Type 0 where
   pub only : (i j level : ℕ) (kind : Kind) → Serves matched i j level kind → In i j p.serves
   pub asking : (i j : ℕ) → In i j p.serves → In i j (asked p)
 
+-- and queue (0, 0) is not among them
+pub record IsServingOthers (p : Plan) (matched : List (Option Fed)) : Type 0 where
+  pub serving : IsServing p matched
+  pub left : Serves matched 0 0 0 Uni → ⊥
+
 -- the row of input i, where these are the requests
 row_at : ℕ → List Pair → ℕ → Row
 row_at n ps i = record { uni = set_of n (λ j. is_in i j ps) ∷ replicate 3 0; multi = replicate LEVELS 0 }

@@ -5,7 +5,7 @@ use Rattle.pointer_state.specs.Places.{Places, grant_of, accept_of}
 use Rattle.service_bound.proofs.PostedRuns.{IsSwitch}
 use Rattle.scheduler_laws.proofs.Plans.{Plan}
 use Rattle.scheduler_laws.proofs.PlannedRuns.{IsLateBy-before, IsLateBy-last}
-use Rattle.scheduler_laws.proofs.ManySlots.{decided_in, IsSwitch-after_in, many_step_of, left_by_input}
+use Rattle.scheduler_laws.proofs.ManySlots.{decided_in, IsSwitch-after_in, many_step_of, serving_others}
 use Rattle.scheduler_laws.proofs.Shapes.{takes, ends, passes, wins, suits_takes, suits_ends, suits_wins}
 use Rattle.scheduler_laws.proofs.MoreShapes.{closes, joins, Descent}
 use Rattle.scheduler_laws.proofs.ThreeShapes.{meets, waits, leaves, returns_to, suits_meets, suits_waits, suits_leaves, suits_returns}
@@ -50,8 +50,8 @@ late_last rounds t places two back =
     let switch = IsSwitch-after_in rounds 3 t places it base.switch in
     let grant : grant_of after 0 0 ≡ 0 = step.grant_stays 0 (λ i is. elim is [ inl s ↦ let e = s.1 in omega arith | inr none ↦ none ]) ∙ base.grant in
     let ending = many_step_of rounds 3 (t + 1) after (ends 0) (omega arith) switch (suits_ends 3 after 0 (omega arith) grant) (omega arith) in
-    IsLateBy-before 3 (decided_in rounds 3) t places it (ends 0 ∷ []) (step.serving (settles_takes 2)) (takes_ends 2 (omega arith))
-    (left_by_input rounds 3 t places it (omega arith) base.switch suits (omega arith) 2 (omega arith) (inl (refl, refl)))
+    IsLateBy-before 3 (decided_in rounds 3) t places it (ends 0 ∷ []) (takes_ends 2 (omega arith))
+    (serving_others rounds 3 t places it (omega arith) base.switch suits (omega arith) 2 (omega arith) (inl (refl, refl)) (settles_takes 2))
     (IsLateBy-last 3 (decided_in rounds 3) (t + 1) after (ends 0) (ending.serving (settles_ends 0)) (inl (refl, refl)))
 
 -- the slot in which input 2 takes output 1 while its request for output 2 waits, and those after it
@@ -69,8 +69,8 @@ late_returns rounds t places two switch grant at granting other =
           (λ i is. elim is [ inl s ↦ let e = s.1 in omega arith | inr more ↦ elim more [ inl s ↦ let e = s.1 in omega arith | inr none ↦ none ] ]) ∙ grant;
       fresh = λ i i_low i_high. absurd (omega arith);
     } in
-    IsLateBy-before 3 (decided_in rounds 3) t places it (closes 2 2 1 0 ∷ later) (step.serving settles_returns) returns_closes
-    (left_by_input rounds 3 t places it (omega arith) switch suits (omega arith) 2 (omega arith) (inl (refl, refl)))
+    IsLateBy-before 3 (decided_in rounds 3) t places it (closes 2 2 1 0 ∷ later) returns_closes
+    (serving_others rounds 3 t places it (omega arith) switch suits (omega arith) 2 (omega arith) (inl (refl, refl)) settles_returns)
     (late_closes rounds 3 2 two refl (omega arith) two_last 0 later (inl refl) (closes_passes 2 2 1 (omega arith) (omega arith))
     (λ t after closed. late_passes rounds 3 2 two refl (omega arith) 2 (takes 0 2 ∷ ends 0 ∷ []) (omega arith) (omega arith)
     (passes_takes 2 (omega arith)) (λ t after back. late_last rounds t after two back) t after (closed.0.switch, closed.0.grant))
@@ -89,8 +89,8 @@ late_leaves rounds t places two switch grant =
     let step = many_step_of rounds 3 t places it (omega arith) switch suits (omega arith) in
     let after = (decided_in rounds 3 t places it).places in
     IsLateBy-before 3 (decided_in rounds 3) t places it (returns_to ∷ closes 2 2 1 0 ∷ passes 2 ∷ takes 0 2 ∷ ends 0 ∷ [])
-    (step.serving settles_leaves) leaves_returns
-    (left_by_input rounds 3 t places it (omega arith) switch suits (omega arith) 1 (omega arith) (inr (inl (refl, refl))))
+    leaves_returns
+    (serving_others rounds 3 t places it (omega arith) switch suits (omega arith) 1 (omega arith) (inr (inl (refl, refl))) settles_leaves)
     (late_returns rounds (t + 1) after two (IsSwitch-after_in rounds 3 t places it switch) (step.granted 1 0 (inl (refl, refl)))
     (step.accepted 0 1 (inr (inl (refl, refl)))) (step.granted 2 2 (inr (inr (inl (refl, refl))))) (step.accepted 2 2 (inr (inr (inl (refl, refl))))))
 
@@ -104,8 +104,8 @@ late_waits rounds t places two switch grant at held =
     let after = (decided_in rounds 3 t places it).places in
     let granting : grant_of after 0 0 ≡ 1 = step.grant_stays 0
     (λ i is. elim is [ inl s ↦ let e = s.1 in omega arith | inr more ↦ elim more [ inl s ↦ let e = s.1 in omega arith | inr none ↦ none ] ]) ∙ grant in
-    IsLateBy-before 3 (decided_in rounds 3) t places it rest_of (step.serving settles_waits) waits_leaves
-    (left_by_input rounds 3 t places it (omega arith) switch suits (omega arith) 1 (omega arith) (inr (inl (refl, refl))))
+    IsLateBy-before 3 (decided_in rounds 3) t places it rest_of waits_leaves
+    (serving_others rounds 3 t places it (omega arith) switch suits (omega arith) 1 (omega arith) (inr (inl (refl, refl))) settles_waits)
     (late_leaves rounds (t + 1) after two (IsSwitch-after_in rounds 3 t places it switch) granting)
 
 -- the slot in which input 2 takes output 1, and those after it
@@ -123,8 +123,8 @@ late_meets rounds t places two base at =
           (λ j is. elim is [ inl s ↦ let e = s.0 in omega arith | inr more ↦ elim more [ inl s ↦ let e = s.0 in omega arith | inr none ↦ none ] ])
           ∙ base.fresh i i_low (omega arith);
     } in
-    IsLateBy-before 3 (decided_in rounds 3) t places it falls (step.serving settles_meets) meets_closes
-    (left_by_input rounds 3 t places it (omega arith) base.switch suits (omega arith) 2 (omega arith) (inl (refl, refl)))
+    IsLateBy-before 3 (decided_in rounds 3) t places it falls meets_closes
+    (serving_others rounds 3 t places it (omega arith) base.switch suits (omega arith) 2 (omega arith) (inl (refl, refl)) settles_meets)
     (late_closes rounds 3 2 two refl (omega arith) two_first 1 (joins 1 1 ∷ waits ∷ rest_of) (inr refl)
     (closes_joins 2 2 1 1 (omega arith) (omega arith) (omega arith) refl)
     (λ t after closed. late_joins rounds 3 2 two refl (omega arith) one_first t after (waits ∷ rest_of) (omega arith) closed.0 joins_waits
@@ -151,6 +151,6 @@ late_three rounds t places two base at zero_at =
       grant = step.grant_stays 0 (λ i is. elim is [ inl s ↦ let e = s.1 in omega arith | inr none ↦ none ]) ∙ base.grant;
       fresh = fresh;
     } in
-    IsLateBy-before 3 (decided_in rounds 3) t places first (meets ∷ falls) (step.serving (settles_wins 1 2)) wins_meets
-    (left_by_input rounds 3 t places first (omega arith) base.switch suits (omega arith) 1 (omega arith) (inl (refl, refl)))
+    IsLateBy-before 3 (decided_in rounds 3) t places first (meets ∷ falls) wins_meets
+    (serving_others rounds 3 t places first (omega arith) base.switch suits (omega arith) 1 (omega arith) (inl (refl, refl)) (settles_wins 1 2))
     (late_meets rounds (t + 1) after two next (step.accepted 0 1 (inl (refl, refl))))
