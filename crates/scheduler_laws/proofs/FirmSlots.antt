@@ -219,17 +219,19 @@ IsServedLast-run rounds n t places ps switch late =
     }
 
 -- what is late from where the first slots lead comes in a schedule at line rate, from all pointers at port 0 on
-pub firm_comes : (rounds n count : ℕ) (ps : List Plan) (after : Places) (rest : List Plan) → IsOpening n (firm_decided rounds n) ps count after rest
-    → IsFirmLate rounds n count after rest
-    → (slots : List DecidedSlot) × AreFedAtLineRate n slots × ComesLastByFirmAtLineRate n rounds count slots
-    × (length (drop count slots) ≡ length rest)
-firm_comes rounds n count ps after rest opening late =
+pub firm_comes : (rounds n : ℕ) (ps rest : List Plan) (opening : IsOpening n (firm_decided rounds n) ps rest)
+    → IsFirmLate rounds n opening.leads.count opening.leads.after rest
+    → (slots : List DecidedSlot) × AreFedAtLineRate n slots × ComesLastByFirmAtLineRate n rounds opening.leads.count slots
+    × (length (drop opening.leads.count slots) ≡ length rest)
+firm_comes rounds n ps rest opening late =
     let leads = opening.leads in
+    let count = leads.count in
+    let after = leads.after in
     let from = places_at_first n in
     let rule = firm_decided rounds n in
     let slots = run n rule 0 from ps in
-    let dropped : drop count slots ≡ run n rule count after rest = led n rule from ps count after rest leads in
-    let all = kept_all n rule from ps count after rest leads late.run_kept in
+    let dropped : drop count slots ≡ run n rule count after rest = led n rule from ps rest leads in
+    let all = kept_all n rule from ps rest leads late.run_kept in
     let served : IsServedLastByFirm n rounds count 0 0 0 after (run n rule count after rest) =
     IsServedLast-run rounds n count after rest opening.later late in (
       slots,

@@ -20,7 +20,7 @@ use Rattle.scheduler_laws.specs.ReachedByFirm.{ComesLastByFirmAtLineRate}
 use Rattle.scheduler_laws.proofs.Plans.{pair, Each, Plan, asked}
 use Rattle.scheduler_laws.proofs.PlannedSlots.{Suits, AreNear}
 use Rattle.scheduler_laws.proofs.NextPlans.{Follows, Starts}
-use Rattle.scheduler_laws.proofs.PlannedRuns.{IsOneEach, LeadsBy, leads_none, leads_before}
+use Rattle.scheduler_laws.proofs.PlannedRuns.{IsOneEach, Leads, leads_none, leads_before}
 use Rattle.scheduler_laws.proofs.SecondRounds.{IsSettled}
 use Rattle.scheduler_laws.proofs.Shapes.{nothing, takes, ends, suits_takes, suits_ends, at_first}
 use Rattle.scheduler_laws.proofs.Settled.{settles_takes, settles_ends}
@@ -149,7 +149,7 @@ with_length rounds n rest P long all = (all.0, all.1, all.2, subst P (sym all.3)
 module _ (rounds n : ℕ) (some_rounds : 0 < rounds) (ports : 1 < n) (rest : List Plan) (starts : Starts (Follows (hands 0 1)) rest) where
   -- the opening leads to where the window begins
   opens : (k x t : ℕ) (places : Places) → x + k ≡ n → IsOpened n places x
-      → (after : Places) × IsTurn n 1 1 after × LeadsBy n (firm_decided rounds n) t places (openings x k rest) (suc k) after rest
+      → (leads : Leads n (firm_decided rounds n) t places (openings x k rest) rest) × IsTurn n 1 1 leads.after × (leads.count ≡ suc k)
   opens zero x t places sum opened =
       let same : x ≡ n = omega arith in
       let some : 0 < n = omega arith in
@@ -159,7 +159,8 @@ module _ (rounds n : ℕ) (some_rounds : 0 < rounds) (ports : 1 < n) (rest : Lis
       let after = (firm_decided rounds n t places it).places in
       let stays : (i : ℕ) → 0 < i → i < n → accept_of after i 0 ≡ 1 = λ i more i_in. step.accept_stays i
       (λ j is. elim is [ inl s ↦ let e = s.0 in omega arith | inr none ↦ none ]) ∙ opened.accepts i (omega arith) in (
-        after,
+        leads_before n (firm_decided rounds n) t places it rest rest (record { serving = step.serving (settles_hands 0 1); follows = starts })
+            (leads_none n (firm_decided rounds n) (t + 1) after rest),
         record {
           switch = IsSwitch-after_firm rounds n t places it opened.switch;
           grant = step.granted 0 0 (inl (refl, refl)) ∙ mod-eq_of_lt ports;
@@ -171,8 +172,7 @@ module _ (rounds n : ℕ) (some_rounds : 0 < rounds) (ports : 1 < n) (rest : Lis
                 subst (λ v. accept_of after v 0 ≡ 1) e (step.accepted 0 0 (inl (refl, refl)) ∙ mod-eq_of_lt ports)
           ];
         },
-        leads_before n (firm_decided rounds n) t places it rest 0 after rest (step.serving (settles_hands 0 1)) starts
-            (leads_none n (firm_decided rounds n) (t + 1) after rest),
+        refl,
       )
   opens (suc k) x t places sum opened =
       let x_in : x < n = omega arith in
@@ -188,10 +188,10 @@ module _ (rounds n : ℕ) (some_rounds : 0 < rounds) (ports : 1 < n) (rest : Lis
         ];
       } in
       let later = opens k (x + 1) (t + 1) after (omega arith) next in (
-        later.0,
+        leads_before n (firm_decided rounds n) t places (ends x) (openings (x + 1) k rest) rest
+            (record { serving = step.serving (settles_ends x); follows = follows_openings x k rest (omega arith) }) later.0,
         later.1,
-        leads_before n (firm_decided rounds n) t places (ends x) (openings (x + 1) k rest) (suc k) later.0 rest (step.serving (settles_ends x))
-            (follows_openings x k rest (omega arith)) later.2,
+        ap suc later.2,
       )
 
   -- all pointers are at port 0 at first
@@ -211,13 +211,14 @@ module _ (rounds n : ℕ) (some_rounds : 0 < rounds) (ports : 1 < n) (rest : Lis
   firm_late_comes size P long late =
       let opened = IsOpened-at_first size in
       let found = opens n 0 0 (places_at_first n) (omega arith) opened in
-      let turn : IsTurn n 1 1 found.0 = found.1 in
+      let leads = found.0 in
+      let turn : IsTurn n 1 1 leads.after = found.1 in
       let d : n ≡ suc (n - 1) = omega arith in
       let one : Starts IsOneEach (openings 0 n rest) = subst (λ k. Starts IsOneEach (openings 0 k rest)) (sym d) (starts_openings 0 (n - 1) rest) in
       let first : Starts (Follows nothing) (openings 0 n rest) = subst (λ k. Starts (Follows nothing) (openings 0 k rest)) (sym d) nothing_ends in
-      let e : suc n ≡ n + 1 = omega arith in
+      let e : leads.count ≡ n + 1 = found.2 ∙ omega arith in
       with_length rounds n rest P long
       (subst
       (λ c. (slots : List DecidedSlot) × AreFedAtLineRate n slots × ComesLastByFirmAtLineRate n rounds c slots × (length (drop c slots) ≡ length rest)) e
-      (firm_comes rounds n (suc n) (openings 0 n rest) found.0 rest
-      (record { switch = opened.switch; one = one; first = first; leads = found.2; later = turn.switch }) (late (suc n) found.0 turn)))
+      (firm_comes rounds n (openings 0 n rest) rest
+      (record { switch = opened.switch; one = one; first = first; leads = leads; later = turn.switch }) (late leads.count leads.after turn)))

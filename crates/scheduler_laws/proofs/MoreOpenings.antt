@@ -19,7 +19,7 @@ use Rattle.service_bound.proofs.PostedRuns.{IsSwitch}
 use Rattle.scheduler_laws.specs.Reached.{AreFedAtLineRate, ComesLastAtLineRate}
 use Rattle.scheduler_laws.proofs.Plans.{Plan, names, AreWithin-rows, IsClean-rows, IsWithoutMulticast-rows}
 use Rattle.scheduler_laws.proofs.NextPlans.{Follows, Starts}
-use Rattle.scheduler_laws.proofs.PlannedRuns.{run, length-run, All-run, IsLateBy-before, opens_run, LeadsBy, leads_none}
+use Rattle.scheduler_laws.proofs.PlannedRuns.{run, length-run, All-run, IsLateBy-before, opens_run, Leads, leads_none}
 use Rattle.scheduler_laws.proofs.PlannedRuns.{leads_before, led, kept_all}
 use Rattle.scheduler_laws.proofs.ManySlots.{decided_in, slot_decided_in, IsSwitch-after_in, many_step_of, serving_others}
 use Rattle.scheduler_laws.proofs.Shapes.{nothing, takes, ends, again, passes, wins, both, suits_takes, suits_ends, suits_again, suits_both, suits_wins}
@@ -236,14 +236,15 @@ IsServedLast-run rounds n t places ps switch late =
 module _ (rounds n : ℕ) (two : 1 < rounds) (ports : 1 < n) (rest : List Plan) (starts : Starts (Follows again) rest) where
   -- the opening leads to where the window begins
   opens : (k x t : ℕ) (places : Places) → x + k ≡ n → IsOpened n places x
-      → (after : Places) × IsBeginning n after × LeadsBy n (decided_in rounds n) t places (openings x k rest) (suc k) after rest
+      → (leads : Leads n (decided_in rounds n) t places (openings x k rest) rest) × IsBeginning n leads.after × (leads.count ≡ suc k)
   opens zero x t places sum opened =
       let same : x ≡ n = omega arith in
       let round : x % n ≡ 0 = ap (λ v. v % n) same ∙ mod_once n n (omega arith) (omega arith) ∙ omega arith in
       let step = many_step_of rounds n t places again (omega arith) opened.switch (suits_again n places (omega arith) (opened.grant ∙ round))
       (omega arith) in
       let after = (decided_in rounds n t places again).places in (
-        after,
+        leads_before n (decided_in rounds n) t places again rest rest (record { serving = step.serving settles_again; follows = starts })
+            (leads_none n (decided_in rounds n) (t + 1) after rest),
         record {
           base = record {
             switch = IsSwitch-after_in rounds n t places again opened.switch;
@@ -254,8 +255,7 @@ module _ (rounds n : ℕ) (two : 1 < rounds) (ports : 1 < n) (rest : List Plan) 
           at = step.accepted 0 0 (inl (refl, refl)) ∙ mod-eq_of_lt ports;
           others = λ m yes. step.grant_stays m (λ i is. elim is [ inl s ↦ let e = s.1 in omega arith | inr none ↦ none ]) ∙ opened.others m yes;
         },
-        leads_before n (decided_in rounds n) t places again rest 0 after rest (step.serving settles_again) starts
-            (leads_none n (decided_in rounds n) (t + 1) after rest),
+        refl,
       )
   opens (suc k) x t places sum opened =
       let x_in : x < n = omega arith in
@@ -272,10 +272,10 @@ module _ (rounds n : ℕ) (two : 1 < rounds) (ports : 1 < n) (rest : List Plan) 
         ];
       } in
       let later = opens k (x + 1) (t + 1) after (omega arith) next in (
-        later.0,
+        leads_before n (decided_in rounds n) t places (ends x) (openings (x + 1) k rest) rest
+            (record { serving = step.serving (settles_ends x); follows = follows_openings x k rest (omega arith) }) later.0,
         later.1,
-        leads_before n (decided_in rounds n) t places (ends x) (openings (x + 1) k rest) (suc k) later.0 rest (step.serving (settles_ends x))
-            (follows_openings x k rest (omega arith)) later.2,
+        ap suc later.2,
       )
 
   -- all pointers are at port 0 at first
@@ -296,16 +296,19 @@ module _ (rounds n : ℕ) (two : 1 < rounds) (ports : 1 < n) (rest : List Plan) 
       let rule = decided_in rounds n in
       let opened = IsOpened-at_first size in
       let found = opens n 0 0 from (omega arith) opened in
-      let after = found.0 in
-      let begins = found.1 in
-      let leads = found.2 in
+      let leads = found.0 in
+      let begins : IsBeginning n leads.after = found.1 in
+      let count = leads.count in
+      let after = leads.after in
       let ps = openings 0 n rest in
       let slots = run n rule 0 from ps in
-      let late = lates (suc n) after begins in
-      let dropped : drop (suc n) slots ≡ run n rule (suc n) after rest = led n rule from ps (suc n) after rest leads in
-      let all = kept_all n rule from ps (suc n) after rest leads late.run_kept in
-      let served : IsServedLast n rounds (suc n) 0 0 0 after (run n rule (suc n) after rest) =
-      IsServedLast-run rounds n (suc n) after rest begins.base.switch late in (
+      let late = lates count after begins in
+      let dropped : drop count slots ≡ run n rule count after rest = led n rule from ps rest leads in
+      let all = kept_all n rule from ps rest leads late.run_kept in
+      let served : IsServedLast n rounds count 0 0 0 after (run n rule count after rest) =
+      IsServedLast-run rounds n count after rest begins.base.switch late in
+      subst
+      (λ c. (slots : List DecidedSlot) × AreFedAtLineRate n slots × ComesLastAtLineRate n rounds c slots × (length (drop c slots) ≡ length rest)) found.2 (
         slots,
         fed_at_line_rate n ps slots (all.fed nothing (starts_first n rest ports)),
         record {
@@ -313,13 +316,13 @@ module _ (rounds n : ℕ) (two : 1 < rounds) (ports : 1 < n) (rest : List Plan) 
             schedule = IsSchedule-run rounds n 0 from ps opened.switch;
             within = All-run n rule 0 from (AreWithin n) (AreWithin-rows n) ps;
             kept = all.kept;
-            last = subst (λ f. IsServedLast n rounds (suc n) 0 0 0 f (drop (suc n) slots)) (sym leads.left)
-                (subst (λ s. IsServedLast n rounds (suc n) 0 0 0 after s) (sym dropped) served);
+            last = subst (λ f. IsServedLast n rounds count 0 0 0 f (drop count slots)) (sym leads.left)
+                (subst (λ s. IsServedLast n rounds count 0 0 0 after s) (sym dropped) served);
           };
           line_rate = all.line;
           opens = opens_run n rule 0 from ps (starts_openings 0 n rest);
         },
-        ap length dropped ∙ length-run n rule (suc n) after rest,
+        ap length dropped ∙ length-run n rule count after rest,
       )
 
 -- the window is reached at line rate

@@ -58,14 +58,17 @@ IsServedLast-run n t places ps switch late =
     }
 
 -- what is late from where the first slots lead comes in a schedule at line rate, from all pointers at port 0 on
-pub comes : (n count : ℕ) (ps : List Plan) (after : Places) (rest : List Plan) → IsOpening n (decided n) ps count after rest → IsLate n count after rest
-    → (slots : List DecidedSlot) × AreFedAtLineRate n slots × ComesLastAtLineRate n 1 count slots × (length (drop count slots) ≡ length rest)
-comes n count ps after rest opening late =
+pub comes : (n : ℕ) (ps rest : List Plan) (opening : IsOpening n (decided n) ps rest) → IsLate n opening.leads.count opening.leads.after rest
+    → (slots : List DecidedSlot) × AreFedAtLineRate n slots × ComesLastAtLineRate n 1 opening.leads.count slots
+    × (length (drop opening.leads.count slots) ≡ length rest)
+comes n ps rest opening late =
     let leads = opening.leads in
+    let count = leads.count in
+    let after = leads.after in
     let from = places_at_first n in
     let slots = run n (decided n) 0 from ps in
-    let dropped : drop count slots ≡ run n (decided n) count after rest = led n (decided n) from ps count after rest leads in
-    let all = kept_all n (decided n) from ps count after rest leads late.run_kept in
+    let dropped : drop count slots ≡ run n (decided n) count after rest = led n (decided n) from ps rest leads in
+    let all = kept_all n (decided n) from ps rest leads late.run_kept in
     let served : IsServedLast n 1 count 0 0 0 after (run n (decided n) count after rest) = IsServedLast-run n count after rest opening.later late in (
       slots,
       fed_at_line_rate n ps slots (all.fed nothing opening.first),

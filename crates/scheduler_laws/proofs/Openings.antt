@@ -14,7 +14,7 @@ use Rattle.scheduler_laws.specs.Reached.{AreFedAtLineRate, ComesLastAtLineRate}
 use Rattle.scheduler_laws.proofs.Plans.{Plan}
 use Rattle.scheduler_laws.proofs.PlannedSlots.{decided, step_of, IsSwitch-after}
 use Rattle.scheduler_laws.proofs.NextPlans.{Follows, Starts}
-use Rattle.scheduler_laws.proofs.PlannedRuns.{IsOneEach, LeadsBy, leads_none, leads_before}
+use Rattle.scheduler_laws.proofs.PlannedRuns.{IsOneEach, Leads, leads_none, leads_before}
 use Rattle.scheduler_laws.proofs.OneRoundRuns.{IsLate, comes}
 use Rattle.scheduler_laws.proofs.Shapes.{nothing, ends, again, crosses, suits_ends, suits_again}
 use Rattle.scheduler_laws.proofs.Followings.{nothing_ends, ends_first, ends_ends, ends_again, again_takes, again_wins}
@@ -55,13 +55,13 @@ module _ (n : ℕ) (more : 1 < n) (rest : List Plan) (starts : Starts (Follows a
 
   -- the opening leads to where the window begins
   opens : (k x t : ℕ) (places : Places) → x + k ≡ n → IsOpened n places x
-      → (after : Places) × IsBeginning n after × LeadsBy n (decided n) t places (openings x k rest) (suc k) after rest
+      → (leads : Leads n (decided n) t places (openings x k rest) rest) × IsBeginning n leads.after × (leads.count ≡ suc k)
   opens zero x t places sum opened =
       let same : x ≡ n = omega arith in
       let round : x % n ≡ 0 = ap (λ v. v % n) same ∙ mod_once n n (omega arith) (omega arith) ∙ omega arith in
       let step = step_of n t places again some opened.switch (suits_again n places some (opened.grant ∙ round)) in
       let after = (decided n t places again).places in (
-        after,
+        leads_before n (decided n) t places again rest rest (record { serving = step.serving; follows = starts }) (leads_none n (decided n) (t + 1) after rest),
         λ m. record {
           switch = IsSwitch-after n t places again opened.switch;
           grant = step.granted 0 0 (inl (refl, refl));
@@ -71,7 +71,7 @@ module _ (n : ℕ) (more : 1 < n) (rest : List Plan) (starts : Starts (Follows a
               ∙ opened.accepts i (omega arith) ∙ mod-eq_of_lt (omega arith);
           held = λ yes. step.grant_stays m (λ i is. elim is [ inl s ↦ let e = s.1 in omega arith | inr none ↦ none ]) ∙ opened.others m yes;
         },
-        leads_before n (decided n) t places again rest 0 after rest step.serving starts (leads_none n (decided n) (t + 1) after rest),
+        refl,
       )
   opens (suc k) x t places sum opened =
       let x_in : x < n = omega arith in
@@ -87,10 +87,10 @@ module _ (n : ℕ) (more : 1 < n) (rest : List Plan) (starts : Starts (Follows a
         ];
       } in
       let later = opens k (x + 1) (t + 1) after (omega arith) next in (
-        later.0,
+        leads_before n (decided n) t places (ends x) (openings (x + 1) k rest) rest
+            (record { serving = step.serving; follows = follows_openings x k rest (omega arith) }) later.0,
         later.1,
-        leads_before n (decided n) t places (ends x) (openings (x + 1) k rest) (suc k) later.0 rest step.serving
-            (follows_openings x k rest (omega arith)) later.2,
+        ap suc later.2,
       )
 
   -- all pointers are at port 0 at first
@@ -109,16 +109,17 @@ module _ (n : ℕ) (more : 1 < n) (rest : List Plan) (starts : Starts (Follows a
   late_comes size late =
       let opened = IsOpened-at_first size in
       let found = opens n 0 0 (places_at_first n) (omega arith) opened in
-      let e : suc n ≡ n + 1 = omega arith in
-      let beginning = found.1 in
+      let leads = found.0 in
+      let beginning : IsBeginning n leads.after = found.1 in
+      let e : leads.count ≡ n + 1 = found.2 ∙ omega arith in
       subst (λ c. (slots : List DecidedSlot) × AreFedAtLineRate n slots × ComesLastAtLineRate n 1 c slots × (length (drop c slots) ≡ length rest)) e
-      (comes n (suc n) (openings 0 n rest) found.0 rest (record {
+      (comes n (openings 0 n rest) rest (record {
         switch = opened.switch;
         one = starts_openings 0 n rest;
         first = starts_first n rest more;
-        leads = found.2;
+        leads = leads;
         later = (beginning 0).switch;
-      }) (late (suc n) found.0 beginning))
+      }) (late leads.count leads.after beginning))
 
 -- the window is reached at line rate
 abbrev Reached : ℕ → Type 0

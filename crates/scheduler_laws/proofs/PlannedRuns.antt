@@ -137,44 +137,57 @@ opens_run n rule t places (p ∷ ps) one = asks_one n p one
 
 -- ---- the first slots of a run
 -- The slots of `rest`, from the pointers `after` on, follow on the first `count` slots of the run.
-pub record LeadsBy (n : ℕ) (rule : Rule) (t : ℕ) (places : Places) (ps : List Plan) (count : ℕ) (after : Places) (rest : List Plan) : Type 0 where
+pub record Leads (n : ℕ) (rule : Rule) (t : ℕ) (places : Places) (ps rest : List Plan) : Type 0 where
+  pub count : ℕ
+  pub after : Places
   pub slots : drop count (run n rule t places ps) ≡ run n rule (t + count) after rest
   pub left : places_after places (take count (run n rule t places ps)) ≡ after
   pub keeping : IsKeptRun n rule (t + count) after rest → IsKeptRun n rule t places ps
 
 -- no slot leads to the run itself
-pub leads_none : (n : ℕ) (rule : Rule) (t : ℕ) (places : Places) (ps : List Plan) → LeadsBy n rule t places ps 0 places ps
-leads_none n rule t places ps =
-    let same : t ≡ t + 0 = omega arith in
-    record { slots = ap (λ s. run n rule s places ps) same; left = refl; keeping = λ kept. subst (λ s. IsKeptRun n rule s places ps) (sym same) kept }
+abbrev pub leads_none : (n : ℕ) (rule : Rule) (t : ℕ) (places : Places) (ps : List Plan) → Leads n rule t places ps ps
+leads_none n rule t places ps = record {
+  count = 0;
+  after = places;
+  slots = ap (λ s. run n rule s places ps) (let same : t ≡ t + 0 = omega arith in same);
+  left = refl;
+  keeping = λ kept. let same : t + 0 ≡ t = omega arith in subst (λ s. IsKeptRun n rule s places ps) same kept;
+}
+
+-- the match serves the pairs of the plan, on which the next one follows
+pub record IsFollowed (p : Plan) (ps : List Plan) (matched : List (Option Fed)) : Type 0 where
+  pub serving : IsServing p matched
+  pub follows : Starts (Follows p) ps
 
 -- one slot more in front
-pub leads_before : (n : ℕ) (rule : Rule) (t : ℕ) (places : Places) (p : Plan) (ps : List Plan) (count : ℕ) (after : Places) (rest : List Plan)
-    → IsServing p (rule t places p).matched → Starts (Follows p) ps → LeadsBy n rule (t + 1) (rule t places p).places ps count after rest
-    → LeadsBy n rule t places (p ∷ ps) (suc count) after rest
-leads_before n rule t places p ps count after rest serving follows leads =
-    let same : t + 1 + count ≡ t + suc count = omega arith in
-    record {
-      slots = leads.slots ∙ ap (λ s. run n rule s after rest) same;
-      left = leads.left;
-      keeping = λ kept. IsKeptRun-before n rule t places p ps serving follows (leads.keeping (subst (λ s. IsKeptRun n rule s after rest) (sym same) kept));
-    }
+abbrev pub leads_before : (n : ℕ) (rule : Rule) (t : ℕ) (places : Places) (p : Plan) (ps rest : List Plan) → IsFollowed p ps (rule t places p).matched
+    → Leads n rule (t + 1) (rule t places p).places ps rest → Leads n rule t places (p ∷ ps) rest
+leads_before n rule t places p ps rest followed leads = record {
+  count = suc leads.count;
+  after = leads.after;
+  slots = leads.slots ∙ ap (λ s. run n rule s leads.after rest) (let same : t + 1 + leads.count ≡ t + suc leads.count = omega arith in same);
+  left = leads.left;
+  keeping = λ kept.
+      let same : t + suc leads.count ≡ t + 1 + leads.count = omega arith in
+      IsKeptRun-before n rule t places p ps followed.serving followed.follows (leads.keeping (subst (λ s. IsKeptRun n rule s leads.after rest) same kept));
+}
 
 -- the slots from slot `count` on, where the run begins with slot 0
-pub led : (n : ℕ) (rule : Rule) (from : Places) (ps : List Plan) (count : ℕ) (after : Places) (rest : List Plan)
-    → LeadsBy n rule 0 from ps count after rest → drop count (run n rule 0 from ps) ≡ run n rule count after rest
-led n rule from ps count after rest leads = let same : 0 + count ≡ count = omega arith in leads.slots ∙ ap (λ s. run n rule s after rest) same
+pub led : (n : ℕ) (rule : Rule) (from : Places) (ps rest : List Plan) (leads : Leads n rule 0 from ps rest)
+    → drop leads.count (run n rule 0 from ps) ≡ run n rule leads.count leads.after rest
+led n rule from ps rest leads =
+    let same : 0 + leads.count ≡ leads.count = omega arith in leads.slots ∙ ap (λ s. run n rule s leads.after rest) same
 
 -- requests stay in all of the run, which is at line rate
-pub kept_all : (n : ℕ) (rule : Rule) (from : Places) (ps : List Plan) (count : ℕ) (after : Places) (rest : List Plan)
-    → LeadsBy n rule 0 from ps count after rest → IsKeptRun n rule count after rest → IsKeptRun n rule 0 from ps
-kept_all n rule from ps count after rest leads kept = let same : 0 + count ≡ count = omega arith in
-    leads.keeping (subst (λ s. IsKeptRun n rule s after rest) (sym same) kept)
+pub kept_all : (n : ℕ) (rule : Rule) (from : Places) (ps rest : List Plan) (leads : Leads n rule 0 from ps rest)
+    → IsKeptRun n rule leads.count leads.after rest → IsKeptRun n rule 0 from ps
+kept_all n rule from ps rest leads kept =
+    let same : leads.count ≡ 0 + leads.count = omega arith in leads.keeping (subst (λ s. IsKeptRun n rule s leads.after rest) same kept)
 
 -- Plans before which nothing waits open a run from all pointers at port 0, and lead to pointers of a switch.
-pub record IsOpening (n : ℕ) (rule : Rule) (ps : List Plan) (count : ℕ) (after : Places) (rest : List Plan) : Type 0 where
+pub record IsOpening (n : ℕ) (rule : Rule) (ps rest : List Plan) : Type 0 where
   pub switch : IsSwitch n (places_at_first n)
   pub one : Starts IsOneEach ps
   pub first : Starts (Follows nothing) ps
-  pub leads : LeadsBy n rule 0 (places_at_first n) ps count after rest
-  pub later : IsSwitch n after
+  pub leads : Leads n rule 0 (places_at_first n) ps rest
+  pub later : IsSwitch n leads.after
