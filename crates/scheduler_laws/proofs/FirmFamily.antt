@@ -97,11 +97,13 @@ module _ (n : ℕ) (two : 1 < n) where
 
   -- input x goes down, and output 0 points at it all the while
   late_downs : (x : ℕ) (rest : List Plan) → 0 < x → x < n → Starts (Follows (takes x (n - 1))) rest → AreFirmLate 1 n (IsTurn n x n) rest
-      → (k a : ℕ) → 0 < a → a + k ≡ n → AreFirmLate 1 n (IsTurn n x a) (downs x a k rest)
-  late_downs x rest some_x x_in starts then zero a some_a sum t places turn =
-      let e : a ≡ n = omega arith in
+      → (k a : ℕ) → a + 1 + k ≡ n → AreFirmLate 1 n (IsTurn n x (a + 1)) (downs x (a + 1) k rest)
+  late_downs x rest some_x x_in starts then zero before sum t places turn =
+      let e : before + 1 ≡ n = omega arith in
       then t places (subst (λ v. IsTurn n x v places) e turn)
-  late_downs x rest some_x x_in starts then (suc k) a some_a sum t places turn =
+  late_downs x rest some_x x_in starts then (suc k) before sum t places turn =
+      let a = before + 1 in
+      let some_a : 0 < a = omega arith in
       let a_in : a < n = omega arith in
       let it = takes x a in
       let suits = suits_takes n places x a x_in some_a a_in (inr (some_x, turn.grant)) (turn.accept ∙ mod-eq_of_lt a_in) in
@@ -118,7 +120,7 @@ module _ (n : ℕ) (two : 1 < n) where
       } in
       late_alone 1 n t places it some (omega arith) turn.switch suits (downs x (a + 1) k rest) refl
       (λ is. elim is [ inl s ↦ let e = s.1 in omega arith | inr none ↦ none ]) (follows_downs x a k (n - 1) rest some_a (omega arith) starts)
-      (late_downs x rest some_x x_in starts then k (a + 1) (omega arith) (omega arith) (t + 1) after next)
+      (late_downs x rest some_x x_in starts then k a (omega arith) (t + 1) after next)
 
   -- the input whose turn is next is one beyond
   whose_next : (k x : ℕ) → x + suc k ≡ n → (x + 1) % n ≡ whose (x + 1) k
@@ -140,7 +142,7 @@ module _ (n : ℕ) (two : 1 < n) where
       (late_hands 1 n (omega arith) two x w n (turns n (x + 1) k) some_x (omega arith) (whose_next k x sum)
       (starts_turns (Follows (hands x w)) n k (x + 1) two (hands_takes x w some_x (whose_other k x some_x sum)))
       (late_turns k (x + 1) (omega arith) (omega arith)))
-      (n - 1) 1 (omega arith) (omega arith) t places turn
+      (n - 1) 0 (omega arith) t places turn
 
 -- the turns of all inputs come at line rate
 pub firm_comes_at_line_rate : (n : ℕ) → 1 < n → n ≤ MAX_PORTS

@@ -337,12 +337,7 @@ late_boths : (n : ℕ) → 3 < n → (k y : ℕ) → 2 < y → y + k ≡ n - 1
 late_boths n more zero y high sum t places at =
     late_first n (omega arith) y 2 (crosses_takes (n - 1) 1 2 (omega arith) (omega arith) (λ e f. omega arith)) t places (
       at.0,
-      record {
-        at = at.0.accept ∙ mod-eq_of_lt (omega arith) ∙ omega arith;
-        some = omega arith;
-        other = λ e. omega arith;
-        how = inr (refl, at.1);
-      },
+      record { at = at.0.accept ∙ mod-eq_of_lt (omega arith) ∙ omega arith; some = omega arith; other = λ e. omega arith; how = inr (refl, at.1) },
     )
 late_boths n more (suc k) y high sum t places before_it =
     let it = both y 1 in
