@@ -275,7 +275,7 @@ module _ (rounds n : ℕ) (two : 1 < rounds) (ports : 1 < n) (rest : List Plan) 
         leads_before n (decided_in rounds n) t places (ends x) (openings (x + 1) k rest) rest
             (record { serving = step.serving (settles_ends x); follows = follows_openings x k rest (omega arith) }) later.0,
         later.1,
-        ap suc later.2,
+        ap suc {x = later.0.count} later.2,
       )
 
   -- all pointers are at port 0 at first

@@ -90,7 +90,7 @@ module _ (n : ℕ) (more : 1 < n) (rest : List Plan) (starts : Starts (Follows a
         leads_before n (decided n) t places (ends x) (openings (x + 1) k rest) rest
             (record { serving = step.serving; follows = follows_openings x k rest (omega arith) }) later.0,
         later.1,
-        ap suc later.2,
+        ap suc {x = later.0.count} later.2,
       )
 
   -- all pointers are at port 0 at first
