@@ -9,9 +9,12 @@ use Rattle.card_core.specs.Plans.{IsPlanned, AreRising}
 at_or_below : (k i : ℕ) → k < i + 1 → (k ≡ i) ⊎ (k < i)
 at_or_below k i below = elim (cases_eq k i) [ inl same ↦ inl same | inr other ↦ inr (omega arith) ]
 
-pub planned_more : (n bytes : ℕ) (packets : List Planned) (i : ℕ) (d : Planned)
-    → ((k : ℕ) (p : Planned) → k < i → slice_get packets k ≡ Some p → IsPlanned n bytes p) → IsPlanned n bytes (slice_index_or packets i d)
-    → (k : ℕ) (p : Planned) → k < i + 1 → slice_get packets k ≡ Some p → IsPlanned n bytes p
+-- the packets before place i are those of a plan
+abbrev pub ArePlannedBefore : ℕ → ℕ → List Planned → ℕ → Type 0
+ArePlannedBefore n bytes packets i = (k : ℕ) (p : Planned) → k < i → slice_get packets k ≡ Some p → IsPlanned n bytes p
+
+pub planned_more : (n bytes : ℕ) (packets : List Planned) (i : ℕ) (d : Planned) → ArePlannedBefore n bytes packets i
+    → IsPlanned n bytes (slice_index_or packets i d) → ArePlannedBefore n bytes packets (i + 1)
 planned_more n bytes packets i d before here k p below is = elim (at_or_below k i below) [
   | inl same ↦ subst (IsPlanned n bytes) (get_or_from_slice_get packets i p d (ap (slice_get packets) (sym same) ∙ is)) here
   | inr less ↦ before k p less is

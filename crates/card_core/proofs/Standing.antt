@@ -51,14 +51,14 @@ begun_after plan s r sent is received = record {
 slot-is : (card : CardState) (takings : List Taken) (posted : Bool) → IsAfter card takings posted → card.sends.slot ≡ length takings
 slot-is card takings posted was = was.sent.slot ∙ length-map takings (λ (t : Taken). t.served)
 
-pub after_post : (s s' : State) (r : Received) (done : Bool) (takings : List Taken) → IsAfter (card_of s r done) takings false → done ≡ false → s.slot < 262145
-    → HasSent s' (served_in takings) true → s'.plan ≡ s.plan → IsAfter (card_of s' r done) takings true
-after_post s s' r done takings was open' room sent same = record {
+pub after_post : (card : CardState) (s : State) (takings : List Taken) → IsAfter card takings false → card.done ≡ false → card.sends.slot < 262145
+    → HasSent s (served_in takings) true → s.plan ≡ card.sends.plan → IsAfter (card_of s card.receives card.done) takings true
+after_post card s takings was open' room sent same = record {
   sent = sent;
-  received = subst (λ p. HasReceived p r (cells_taken takings)) (sym same) was.received;
+  received = subst (λ p. HasReceived p card.receives (cells_taken takings)) (sym same) was.received;
   done = was.done;
   going = λ e. open';
-  slots = let e = slot-is (card_of s r done) takings false was in omega arith;
+  slots = let e = slot-is card takings false was in omega arith;
 }
 
 -- ---- after a take
@@ -83,17 +83,17 @@ received_case : (plan : Plan) → IsGoodPlan plan → (r : Received) (cells : Li
 received_case plan good r cells None had may = subst (HasReceived plan r) (sym (append-nil cells)) had
 received_case plan good r cells (Some cell) had may = received-push plan good r cells had cell may
 
-pub after_take : (s s' : State) (r r' : Received) (done : Bool) (takings : List Taken) (taken : Taken) → IsAfter (card_of s r done) takings true
-    → MayReceiveAny r taken.cell
-    → HasSent s' (served_in takings ++ taken.served ∷ []) false → s'.plan ≡ s.plan → r' ≡ received_any r taken.cell
-    → IsAfter (card_of s' r' taken.done) (takings ++ taken ∷ []) false
-after_take s s' r r' done takings taken was may sent same put =
-    let all = received_case s.plan was.sent.plan r (cells_taken takings) taken.cell was.received may in
+pub after_take : (card : CardState) (s : State) (takings : List Taken) (taken : Taken) → IsAfter card takings true → MayReceiveAny card.receives taken.cell
+    → HasSent s (served_in takings ++ taken.served ∷ []) false → s.plan ≡ card.sends.plan
+    → IsAfter (card_of s (received_any card.receives taken.cell) taken.done) (takings ++ taken ∷ []) false
+after_take card s takings taken was may sent same =
+    let plan = card.sends.plan in
+    let r = received_any card.receives taken.cell in
+    let all = received_case plan was.sent.plan card.receives (cells_taken takings) taken.cell was.received may in
     record {
-      sent = subst (λ xs. HasSent s' xs false) (sym (served-push takings taken)) sent;
-      received = subst (λ p. HasReceived p r' (cells_taken (takings ++ taken ∷ []))) (sym same)
-          (subst (λ cs. HasReceived s.plan r' cs) (sym (cells-push takings taken))
-          (subst (λ x. HasReceived s.plan x (cells_taken takings ++ option_to_list taken.cell)) (sym put) all));
+      sent = subst (λ xs. HasSent s xs false) (sym (served-push takings taken)) sent;
+      received = subst (λ p. HasReceived p r (cells_taken (takings ++ taken ∷ []))) (sym same)
+          (subst (λ cs. HasReceived plan r cs) (sym (cells-push takings taken)) all);
       done = done-push takings taken (sym was.done ∙ was.going refl);
       going = λ e. absurd (cc);
       slots = let e = was.slots in let l = length_push takings taken in omega arith;

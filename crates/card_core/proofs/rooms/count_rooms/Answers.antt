@@ -1,22 +1,10 @@
-use Rattle.std.proofs.Common.{◌≡◌, ◌∙◌, ◌+◌, ◌<◌, ◌^◌, ℕ, List, [], ◌∷◌, ◌++◌, arith, refl, sym, subst, take, length, slice_index_or}
+use Rattle.std.proofs.Common.{◌∙◌, ◌+◌, ◌<◌, ◌^◌, arith, refl, sym, subst, take, length, slice_index_or}
 use Rattle.std.proofs.lemmas.List.{take_more, take_all}
 use Rattle.std.proofs.lemmas.Option.{slice_get-get_or}
-use Rattle.card_core.specs.declared.plan.Planned.{Planned}
-use Rattle.card_core.specs.InputQueues.{QueueRooms}
 use Rattle.card_core.specs.Plans.{no_packet}
 use Rattle.card_core.specs.StateSteps.{HasRooms}
 use Rattle.card_core.proofs.Plenty.{few_up}
 use Rattle.card_core.proofs.rooms.count_rooms.Goals as goal
-
-next : (n m i : ℕ) (packets : List Planned) (d : Planned) (old new : QueueRooms) → m ≡ n → i < length packets
-    → ((before : List Planned) (packet : Planned) → packet.fan ≡ (slice_index_or packets i d).fan → packet.level ≡ (slice_index_or packets i d).level
-    → HasRooms m before old.unicast old.multicast → HasRooms m (before ++ packet ∷ []) new.unicast new.multicast)
-    → HasRooms n (take i packets) old.unicast old.multicast → HasRooms n (take (i + 1) packets) new.unicast new.multicast
-next n m i packets d old new is inside adds had =
-    subst (λ k. HasRooms k (take (i + 1) packets) new.unicast new.multicast) is
-    (subst (λ ps. HasRooms m ps new.unicast new.multicast) (sym (take_more packets i d inside))
-    (adds (take i packets) (slice_index_or packets i d) refl refl
-    (subst (λ k. HasRooms k (take i packets) old.unicast old.multicast) (sym is) had)))
 
 pub count-requires-clause-few : goal.count-requires-clause-few
 count-requires-clause-few c =
@@ -41,12 +29,20 @@ loop-packet-init c = record {
 }
 
 pub loop-packet-preserved : goal.loop-packet-preserved
-loop-packet-preserved c = record {
-  ports = c.count.ensures.ports ∙ c.loop-packet.invariant.ports;
-  rooms = next c.args.n c.loop-packet.rooms.ports c.loop-packet.packet-index c.args.packets.now no_packet c.loop-packet.rooms c.count.new.self
-      c.loop-packet.invariant.ports c.loop-packet-test.true c.count.ensures.rooms c.loop-packet.invariant.rooms;
-  few = c.count.ensures.few c.loop-packet.packet-index c.loop-packet.invariant.few;
-}
+loop-packet-preserved c =
+    let i = c.loop-packet.packet-index in
+    let packets = c.args.packets.now in
+    let old = c.loop-packet.rooms in
+    let new = c.count.new.self in
+    let ports = c.loop-packet.invariant.ports in
+    let had = subst (λ n. HasRooms n (take i packets) old.unicast old.multicast) (sym ports) c.loop-packet.invariant.rooms in
+    let more = c.count.ensures.rooms (take i packets) (slice_index_or packets i no_packet) refl refl had in
+    record {
+      ports = c.count.ensures.ports ∙ ports;
+      rooms = subst (λ n. HasRooms n (take (i + 1) packets) new.unicast new.multicast) ports
+          (subst (λ ps. HasRooms old.ports ps new.unicast new.multicast) (sym (take_more packets i no_packet c.loop-packet-test.true)) more);
+      few = c.count.ensures.few i c.loop-packet.invariant.few;
+    }
 
 pub returns-clause-rooms : goal.returns-clause-rooms
 returns-clause-rooms c =

@@ -1,6 +1,5 @@
-use Rattle.std.proofs.Common.{◌≡◌, ◌∙◌, ◌<◌, List, [], false, None, slice_get, length, refl, sym, ap, subst, arith}
-use Rattle.card_core.specs.declared.plan.Planned.{Planned}
-use Rattle.card_core.specs.InputQueues.{InputQueues, QueueRooms}
+use Rattle.std.proofs.Common.{◌≡◌, ◌∙◌, ◌<◌, [], false, None, slice_get, length, refl, sym, ap, subst, arith}
+use Rattle.card_core.specs.InputQueues.{QueueRooms}
 use Rattle.card_core.specs.Plans.{Plan, IsGoodPlan, plan_of}
 use Rattle.card_core.specs.States.{HasSent, state_of}
 use Rattle.card_core.specs.StateSteps.{HasRooms}
@@ -10,19 +9,28 @@ use Rattle.slot_match.specs.declared.rows.Row.{Row}
 use Rattle.card_core.proofs.Plenty.{few_packets}
 use Rattle.card_core.proofs.Beginning.{begins}
 use Rattle.card_core.proofs.ingress.Ingress.make.Goals as goal
+use Rattle.card_core.proofs.ingress.Ingress.make.Goals.{After-empty}
 
-made : (plan : Plan) (row : Row) (packets : List Planned) (rooms : QueueRooms) (queues : InputQueues) → IsGoodPlan plan → packets ≡ plan.packets
-    → rooms.ports ≡ plan.ports → HasRooms plan.ports packets rooms.unicast rooms.multicast
-    → queues.unicast ≡ empty_unis rooms.ports plan.depth rooms.unicast → queues.multicast ≡ empty_fans rooms.ports plan.depth rooms.multicast
-    → HasSent (state_of plan 0 0 false None row 0 0 queues.unicast queues.multicast) [] false
-made plan row packets rooms queues good packets_are ports had unicast_is multicast_is =
-    let has = subst (λ ps. HasRooms plan.ports ps rooms.unicast rooms.multicast) packets_are had in
-    subst (λ b. HasSent (state_of plan 0 0 false None row 0 0 b queues.multicast) [] false)
-    (sym (unicast_is ∙ ap (λ n. empty_unis n plan.depth rooms.unicast) ports))
+begun : (plan : Plan) (row : Row) (rooms : QueueRooms) → IsGoodPlan plan → HasRooms plan.ports plan.packets rooms.unicast rooms.multicast
+    → HasSent (state_of plan 0 0 false None row 0 0 (empty_unis plan.ports plan.depth rooms.unicast)
+    (empty_fans plan.ports plan.depth rooms.multicast)) [] false
+begun plan row rooms good has =
+    begins plan row rooms.unicast rooms.multicast good (λ j l inside below. let e = has.unis j l inside below in omega arith)
+    (λ l below. let e = has.fans l below in omega arith)
+
+made : (c : After-empty) → HasSent (state_of (plan_of c.args.plan) 0 0 false None c.empty.result 0 0 c.in_ok-queues.queues.unicast
+    c.in_ok-queues.queues.multicast) [] false
+made c =
+    let plan = plan_of c.args.plan in
+    let row = c.empty.result in
+    let rooms = c.in_ok-rooms.rooms in
+    let queues = c.in_ok-queues in
+    let ports : rooms.ports ≡ plan.ports = c.in_ok-rooms.ensures.ports in
+    let has = subst (λ ps. HasRooms plan.ports ps rooms.unicast rooms.multicast) c.deref.ensures.value c.in_ok-rooms.ensures.rooms in
+    subst (λ b. HasSent (state_of plan 0 0 false None row 0 0 b queues.queues.multicast) [] false)
+    (sym (queues.ensures.unicast ∙ ap (λ n. empty_unis n plan.depth rooms.unicast) ports))
     (subst (λ f. HasSent (state_of plan 0 0 false None row 0 0 (empty_unis plan.ports plan.depth rooms.unicast) f) [] false)
-    (sym (multicast_is ∙ ap (λ n. empty_fans n plan.depth rooms.multicast) ports))
-    (begins plan row rooms.unicast rooms.multicast good (λ j l inside below. let e = has.unis j l inside below in omega arith)
-    (λ l below. let e = has.fans l below in omega arith)))
+    (sym (queues.ensures.multicast ∙ ap (λ n. empty_fans n plan.depth rooms.multicast) ports)) (begun plan row rooms c.requires.good has))
 
 pub count_rooms-requires : goal.count_rooms-requires
 count_rooms-requires c =
@@ -40,15 +48,7 @@ make-requires c =
     }
 
 pub invariant_of-result : goal.invariant_of-result
-invariant_of-result c = (
-  [],
-  made (plan_of c.args.plan) c.empty.result c.deref.result.now c.in_ok-rooms.rooms c.in_ok-queues.queues c.requires.good c.deref.ensures.value
-      c.in_ok-rooms.ensures.ports c.in_ok-rooms.ensures.rooms c.in_ok-queues.ensures.unicast c.in_ok-queues.ensures.multicast,
-)
+invariant_of-result c = ([], made (goal.at.invariant_of-result c).After-empty)
 
 pub returns : goal.returns
-returns c = record {
-  sent = made (plan_of c.args.plan) c.empty.result c.deref.result.now c.in_ok-rooms.rooms c.in_ok-queues.queues c.requires.good c.deref.ensures.value
-      c.in_ok-rooms.ensures.ports c.in_ok-rooms.ensures.rooms c.in_ok-queues.ensures.unicast c.in_ok-queues.ensures.multicast;
-  plan = refl;
-}
+returns c = record { sent = made (goal.at.returns c).After-empty; plan = refl }
