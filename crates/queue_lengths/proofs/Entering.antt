@@ -1,6 +1,6 @@
 -- The counters after the packet that arrives in a slot.
-use Rattle.std.proofs.Common.{◌≡◌, ◌≢◌, ◌∙◌, ℕ, ◌+◌, ◌-◌, ◌^◌, ◌<◌, ◌&&◌, ◌≤◌, nat_le, Bool, true, false, List, length, Option, Some, None, refl, sym, ap, inl, inr}
-use Rattle.std.proofs.Common.{subst, arith, if◌then◌else◌, slice_get, slice_index, length-set, length-drop}
+use Rattle.std.proofs.Common.{◌≡◌, ◌≢◌, ◌∙◌, ℕ, ◌+◌, ◌-◌, ◌^◌, ◌<◌, ◌&&◌, ◌≤◌, nat_le, Bool, true, false, List, length, Option, Some, None}
+use Rattle.std.proofs.Common.{refl, sym, ap, inl, inr, subst, arith, if◌then◌else◌, slice_get, slice_index, length-set, length-drop}
 use Rattle.std.proofs.lemmas.Bool.{ne_eqb, cases_lt, le-leb, lt-leb}
 use Rattle.std.proofs.lemmas.List.{get_or-set_same, get_or-set_other}
 use Rattle.slot_match.specs.declared.matching.Served.{Served}
@@ -45,14 +45,12 @@ fits_left waits cells depth few = elim (cases_lt depth (waits + cells)) [
   | inr fits ↦ le-leb cells (depth - waits) (omega arith) ∙ sym (le-leb (waits + cells) depth fits)
 ]
 
--- the test by what was found
-pub enters_from : (ports depth place cells : ℕ) (lengths : List ℕ) (p : Planned) → p.fan ≢ 0 → place ≡ place_for ports p → cells ≡ size_of p
-    → slice_index lengths (place_for ports p) ≤ depth → nat_le cells (depth - slice_index lengths place) ≡ enters_at ports depth lengths p
-enters_from ports depth place cells lengths p some at size few =
+-- the test by what is left of the depth
+pub enters_from : (ports depth : ℕ) (lengths : List ℕ) (p : Planned) → p.fan ≢ 0 → slice_index lengths (place_for ports p) ≤ depth
+    → nat_le (size_of p) (depth - slice_index lengths (place_for ports p)) ≡ enters_at ports depth lengths p
+enters_from ports depth lengths p some few =
     let routed : is_routed p ≡ true = rw (ne_eqb p.fan 0 some) refl in
-    ap (λ n. nat_le cells (depth - slice_index lengths n)) at
-    ∙ ap (λ n. nat_le n (depth - slice_index lengths (place_for ports p))) size
-    ∙ fits_left (slice_index lengths (place_for ports p)) (size_of p) depth few
+    fits_left (slice_index lengths (place_for ports p)) (size_of p) depth few
     ∙ ap (λ b. b && nat_le (slice_index lengths (place_for ports p) + size_of p) depth) (sym routed)
 
 swapped : (routed same admitted : Bool) (size : ℕ) → (if same && (routed && admitted) then size else 0) ≡ (if routed && same && admitted then size else 0)

@@ -258,13 +258,13 @@ place_unicast ports row part size kind among may =
     ∙ ap (λ k. if is_last k row part then Some (place_of ports (queue_by k part)) else None) (sym kind)
 
 -- a queue has a cell where one leaves
-some_by : (ports : ℕ) (lengths : List ℕ) (q : Queue) (last : Bool) (rest long place : ℕ) → IsQueue ports q → length lengths ≡ count_of ports
-    → slice_index lengths (place_of ports q) ≡ long → rest + (if last then 1 else 0) ≡ long → (if last then Some (place_of ports q) else None) ≡ Some place
+some_by : (ports : ℕ) (lengths : List ℕ) (q : Queue) (last : Bool) (place : ℕ) → IsQueue ports q → length lengths ≡ count_of ports
+    → (last ≡ true → 0 < slice_index lengths (place_of ports q)) → (if last then Some (place_of ports q) else None) ≡ Some place
     → (place < length lengths) × (0 < slice_index lengths place)
-some_by ports lengths q true rest long place inside count at less there =
+some_by ports lengths q true place inside count some there =
     let below = place-inside ports q inside in
-    subst (λ k. (k < length lengths) × (0 < slice_index lengths k)) (same_Some (place_of ports q) place there) (omega (arith, below), omega arith)
-some_by ports lengths q false rest long place inside count at less there = absurd (cc)
+    subst (λ k. (k < length lengths) × (0 < slice_index lengths k)) (same_Some (place_of ports q) place there) (omega (arith, below), some refl)
+some_by ports lengths q false place inside count some there = absurd (cc)
 
 -- ---- the counters
 module _ (plan : Plan) (counters : Counters) (served : List (Option Served)) (was : CountIn plan counters served) where
@@ -303,9 +303,9 @@ module _ (plan : Plan) (counters : Counters) (served : List (Option Served)) (wa
         let inside = queue_inside plan was.good served (length served) part on_row in
         let counts = after_count plan was.good served (length served) part on_row q in
         let mine = is_queue-refl q in
-        some_by plan.ports counters.lengths q (is_last part.kind (row_at plan served (length served)) part)
-        (left_in plan was.good served (length served) part q) (length_in plan q served (length served)) place inside was.count
-        (was.lengths q inside) (rw mine at counts) (sym same_place ∙ there)
+        let left = rw mine at counts in
+        some_by plan.ports counters.lengths q (is_last part.kind (row_at plan served (length served)) part) place inside was.count
+        (λ last. let one = rw last at left in omega (arith, one, was.lengths q inside)) (sym same_place ∙ there)
 
     pub left_some_part : CountBefore plan (record counters { lengths = lengths_left counters.lengths (place_left counters.ports row part) })
         (served ++ Some part ∷ [])
