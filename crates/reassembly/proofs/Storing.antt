@@ -7,7 +7,7 @@ use Rattle.rotating_pick.specs.declared.kinds.Kind.TheVariants.{Uni, Multi}
 use Rattle.cell_cutter.specs.Kinds.{kind_byte}
 use Rattle.cell_cutter.specs.declared.cell.Cell.{Cell}
 use Rattle.cell_cutter.specs.Cells.{used_bytes}
-use Rattle.reassembly.specs.Flows.{Flows, fresh, flow_of, with_cell, after_cell, place_of_cell, bytes_with}
+use Rattle.reassembly.specs.Flows.{fresh, flow_of, with_cell, after_cell, place_of_cell, bytes_with}
 use Rattle.reassembly.specs.BufferSteps.{Stored, begun, flow_in, flows_in, stored_with}
 
 -- the bytes stand where the flow goes on, and do not where it begins anew
@@ -37,27 +37,30 @@ flows_in-set ports buffers cell old h e =
     ap (λ fs. record { ports = ports; flows = fs }) (map-set flow_in buffers (place_of_cell cell) (stored_with old cell)
     ∙ ap (set (map flow_in buffers) (place_of_cell cell)) flow)
 
--- what stands after a put, where `all` stood before it
-pub flows-put : (ports : ℕ) (buffers : List Stored) (cell : Cell) (place : ℕ) (old new : Stored) (all : Flows) → flows_in ports buffers ≡ all
-    → place ≡ place_of_cell cell → place < length buffers → old ≡ get_or buffers place old → new ≡ stored_with old cell
-    → flows_in ports (set buffers place new) ≡ after_cell all cell
-flows-put ports buffers cell place old new all stood places h was now =
-    let there : place_of_cell cell < length buffers = omega (arith, places) in
-    let e : old ≡ get_or buffers (place_of_cell cell) old = was ∙ ap (λ i. get_or buffers i old) places in
-    ap (λ n. flows_in ports (set buffers place n)) now
-    ∙ (ap (λ i. flows_in ports (set buffers i (stored_with old cell))) places
-    ∙ (flows_in-set ports buffers cell old there e ∙ ap (λ f. after_cell f cell) stood))
+-- a buffer at the place of a cell took the cell
+pub record IsPut (buffers : List Stored) (cell : Cell) (place : ℕ) (old new : Stored) : Type 0 where
+  pub place_is : place ≡ place_of_cell cell
+  pub inside : place < length buffers
+  pub was : old ≡ get_or buffers place old
+  pub now : new ≡ stored_with old cell
+
+-- the flows that stand after that
+pub flows-put : (ports : ℕ) (buffers : List Stored) (cell : Cell) (place : ℕ) (old new : Stored) → IsPut buffers cell place old new
+    → flows_in ports (set buffers place new) ≡ after_cell (flows_in ports buffers) cell
+flows-put ports buffers cell place old new put =
+    let there : place_of_cell cell < length buffers = omega (arith, put.place_is, put.inside) in
+    let e : old ≡ get_or buffers (place_of_cell cell) old = put.was ∙ ap (λ i. get_or buffers i old) put.place_is in
+    ap (λ n. flows_in ports (set buffers place n)) put.now
+    ∙ (ap (λ i. flows_in ports (set buffers i (stored_with old cell))) put.place_is ∙ flows_in-set ports buffers cell old there e)
 
 -- and the message that the buffer shows
-pub message-put : (ports : ℕ) (buffers : List Stored) (cell : Cell) (place : ℕ) (old new shown : Stored) (all : Flows) → flows_in ports buffers ≡ all
-    → place ≡ place_of_cell cell → place < length buffers → old ≡ get_or buffers place old → new ≡ stored_with old cell
-    → shown ≡ get_or (set buffers place new) place shown → shown.bytes ≡ bytes_with (flow_of all cell) cell
-message-put ports buffers cell place old new shown all stood places h was now shows =
-    let there : place_of_cell cell < length buffers = omega (arith, places) in
-    let e : old ≡ get_or buffers (place_of_cell cell) old = was ∙ ap (λ i. get_or buffers i old) places in
-    let same : shown ≡ stored_with old cell = shows ∙ (get_or-set_same buffers place new shown h ∙ now) in
-    let flow : flow_in old ≡ flow_of all cell = sym (flow_of-flows_in ports buffers cell old there e) ∙ ap (λ f. flow_of f cell) stood in
-    ap (λ s. s.bytes) same ∙ ap (λ f. bytes_with f cell) flow
+pub message-put : (ports : ℕ) (buffers : List Stored) (cell : Cell) (place : ℕ) (old new shown : Stored) → IsPut buffers cell place old new
+    → shown ≡ get_or (set buffers place new) place shown → shown.bytes ≡ bytes_with (flow_of (flows_in ports buffers) cell) cell
+message-put ports buffers cell place old new shown put shows =
+    let there : place_of_cell cell < length buffers = omega (arith, put.place_is, put.inside) in
+    let e : old ≡ get_or buffers (place_of_cell cell) old = put.was ∙ ap (λ i. get_or buffers i old) put.place_is in
+    let same : shown ≡ stored_with old cell = shows ∙ (get_or-set_same buffers place new shown put.inside ∙ put.now) in
+    ap (λ s. s.bytes) same ∙ ap (λ f. bytes_with f cell) (sym (flow_of-flows_in ports buffers cell old there e))
 
 pub kind_byte-lt : (kind : Kind) → kind_byte kind < 2
 kind_byte-lt Uni = lit< tt
