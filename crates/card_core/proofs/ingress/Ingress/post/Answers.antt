@@ -1,4 +1,5 @@
-use Rattle.std.proofs.Common.{◌∙◌, List, length, false, ap, sym, subst, arith}
+use Rattle.std.proofs.Common.{◌∙◌, ◌+◌, ◌||◌, nat_lt, not, List, length, false, ap, sym, subst, arith}
+use Rattle.slot_histories.specs.Tests.{is_empty}
 use Rattle.card_core.specs.declared.plan.Planned.{Planned}
 use Rattle.card_core.specs.Posts.{post_at}
 use Rattle.card_core.specs.States.{State, HasSent}
@@ -45,10 +46,13 @@ returns-clause-after c served was =
 pub returns-clause-post : goal.returns-clause-post
 returns-clause-post c served was =
     let old = subst (λ b. HasSent b served false) (sym c.self.view_is) was in
-    post_is (the_view c.self.inside) served old c.next_arrival-arrived.result c.enter-count.result
+    let row = c.row-row.ensures in
+    let packets = c.len.ensures ∙ c.self.inside.plan.packets.ok.0 in
+    let more = c.is_more.ensures ∙ (λ i. nat_lt (c.self.inside.next + c.enter-count.result.packets) (packets i) || not (is_empty (row i))) in
+    (λ i. record { row = row i; cell = c.self.inside.granted; more = more i })
+    ∙ post_is (the_view c.self.inside) served old c.next_arrival-arrived.result c.enter-count.result
     c.enter-count.new.queues.unicast c.enter-count.new.queues.multicast
     (c.next_arrival-arrived.ensures ∙ ap (λ (ps : List Planned). next_in ps c.self.inside.next c.self.inside.slot) c.deref.ensures.value) c.enter-count.ensures
-    c.row-row.result c.len.result c.is_more.result c.row-row.ensures (c.len.ensures ∙ c.self.inside.plan.packets.ok.0) c.is_more.ensures
     ∙ ap (λ (b : State). post_at b.plan served (length served)) c.self.view_is
 
 pub invariant_of-self : goal.invariant_of-self
