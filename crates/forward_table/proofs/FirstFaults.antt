@@ -61,42 +61,46 @@ first_here n earlier number l ls fault is = record {
   before = λ k below. absurd (omega arith);
 }
 
--- a line with a fault, or else the first of those after it
-found_at : (n : ℕ) (earlier : List RouteLine) (number : ℕ) (l : List ℕ) (ls : List (List ℕ)) (fault : TableFault)
-    → (first_fault n (earlier ++ route_line_of n number l) (number + 1) ls ≡ Some fault → IsFirst n (earlier ++ route_line_of n number l) (number + 1) ls fault)
-    → (o : Option TableFault) → fault_of n earlier number l ≡ o
-    → option_or o (first_fault n (earlier ++ route_line_of n number l) (number + 1) ls) ≡ Some fault → IsFirst n earlier number (l ∷ ls) fault
-found_at n earlier number l ls fault rest (Some f) at e = first_here n earlier number l ls fault (at ∙ e)
-found_at n earlier number l ls fault rest None at e = first_more n earlier number l ls fault at (rest e)
+-- a fault and none
+some_none : (o : Option TableFault) (fault : TableFault) → o ≡ Some fault → o ≡ None → ⊥
+some_none o fault is isnt = absurd (cc)
 
+-- a fault or none
+cases_option : (o : Option TableFault) → (o ≡ None) ⊎ ((fault : TableFault) × (o ≡ Some fault))
+cases_option None = inl refl
+cases_option (Some fault) = inr (fault, refl)
+
+-- a fault is that of a line, or else the first of those after it
 found : (n : ℕ) (earlier : List RouteLine) (number : ℕ) (ls : List (List ℕ)) (fault : TableFault) → first_fault n earlier number ls ≡ Some fault
     → IsFirst n earlier number ls fault
 found n earlier number [] fault e = absurd (cc)
-found n earlier number (l ∷ ls) fault e = found_at n earlier number l ls fault (found n (earlier ++ route_line_of n number l) (number + 1) ls fault)
-    (fault_of n earlier number l) refl e
+found n earlier number (l ∷ ls) fault e =
+    let later = earlier ++ route_line_of n number l in
+    let told : Option TableFault → Option TableFault = λ o. option_or o (first_fault n later (number + 1) ls) in
+    elim (cases_option (fault_of n earlier number l)) [
+      | inl none ↦ first_more n earlier number l ls fault none (found n later (number + 1) ls fault (ap told (sym none) ∙ e))
+      | inr some ↦ first_here n earlier number l ls fault (some.1 ∙ (ap told (sym some.1) ∙ e))
+    ]
 
 -- no line has a fault
-none_at : (n : ℕ) (earlier : List RouteLine) (number : ℕ) (l : List ℕ) (ls : List (List ℕ))
-    → (first_fault n (earlier ++ route_line_of n number l) (number + 1) ls ≡ None → (k : ℕ) → k < length ls
-    → later_fault n (earlier ++ route_line_of n number l) (number + 1) ls k ≡ None)
-    → (o : Option TableFault) → fault_of n earlier number l ≡ o
-    → option_or o (first_fault n (earlier ++ route_line_of n number l) (number + 1) ls) ≡ None → (k : ℕ) → k < length (l ∷ ls)
-    → later_fault n earlier number (l ∷ ls) k ≡ None
-none_at n earlier number l ls rest (Some f) at e k below = absurd (cc)
-none_at n earlier number l ls rest None at e zero below = first_line n earlier number l ls ∙ at
-none_at n earlier number l ls rest None at e (suc k) below = next_line n earlier number l ls k ∙ rest e k (omega arith)
-
 none : (n : ℕ) (earlier : List RouteLine) (number : ℕ) (ls : List (List ℕ)) → first_fault n earlier number ls ≡ None → (k : ℕ) → k < length ls
     → later_fault n earlier number ls k ≡ None
 none n earlier number [] e k below = let not : ⊥ = omega arith in absurd not
 none n earlier number (l ∷ ls) e k below =
-    none_at n earlier number l ls (none n (earlier ++ route_line_of n number l) (number + 1) ls) (fault_of n earlier number l) refl e k below
+    let later = earlier ++ route_line_of n number l in
+    let told : Option TableFault → Option TableFault = λ o. option_or o (first_fault n later (number + 1) ls) in
+    elim (cases_option (fault_of n earlier number l)) [
+      | inr some ↦ absurd (some_none (Some some.0) some.0 refl (ap told (sym some.1) ∙ e))
+      | inl nothing ↦ none_later k below nothing (none n later (number + 1) ls (ap told (sym nothing) ∙ e))
+    ]
+  where
+    none_later : (k : ℕ) → k < length (l ∷ ls) → fault_of n earlier number l ≡ None
+        → ((j : ℕ) → j < length ls → later_fault n (earlier ++ route_line_of n number l) (number + 1) ls j ≡ None)
+        → later_fault n earlier number (l ∷ ls) k ≡ None
+    none_later zero below nothing rest = first_line n earlier number l ls ∙ nothing
+    none_later (suc k) below nothing rest = next_line n earlier number l ls k ∙ rest k (omega arith)
 
 -- ---- what is told of a text
-
--- a fault and none
-some_none : (o : Option TableFault) (fault : TableFault) → o ≡ Some fault → o ≡ None → ⊥
-some_none o fault is isnt = absurd (cc)
 
 one_fault : (o : Option TableFault) (fault other : TableFault) → o ≡ Some fault → o ≡ Some other → fault ≡ other
 one_fault o fault other is too = cc

@@ -6,4 +6,5 @@ use Rattle.forward_table.proofs.route_cache.RouteCache.new.Goals as goal
 
 pub invariant_of-result : goal.invariant_of-result
 invariant_of-result c =
-    All-replicate (λ (k : Kept). k.route ≡ route_of c.args.table.now (Some k.address)) 256 (record { address = 0; route = c.route.result }) c.route.ensures.route
+    let first : Kept = record { address = 0; route = c.route.result } in
+    All-replicate (λ (k : Kept). k.route ≡ route_of c.args.table.now (Some k.address)) 256 first c.route.ensures.route
