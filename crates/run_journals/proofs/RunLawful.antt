@@ -71,7 +71,8 @@ module _ (scheduler : Scheduler) (scheduling : IsScheduler scheduler) (plan : Sw
   }
 
   pub run_is_file : IsBurst plan → IsFile (run_file_under scheduler plan slots)
-  run_is_file burst = slots_are_file scheduler (setup_for plan) (posts_under scheduler plan) slots whole (is_setup burst) few (λ i t inside below. four_levels i t)
+  run_is_file burst =
+      slots_are_file scheduler (setup_for plan) (posts_under scheduler plan) slots whole (is_setup burst) few (λ i t inside below. four_levels i t)
 
 -- ---- what is told of the file is what the summary tells of the run
 module _ (scheduler : Scheduler) (plan : SwitchPlan) (slots : ℕ) where

@@ -42,5 +42,6 @@ loop-len-preserved c =
       start = omega arith;
       rest = (parts_of old new text at.start to turned).1 ∙ later;
       text = λ messages are lengths.
-          records_more c.args.nano body lens messages are lengths old new message k at.start to inside start part turned (at.invariant.text messages are lengths);
+          records_more c.args.nano body lens messages are lengths old new message k at.start to inside start part turned
+          (at.invariant.text messages are lengths);
     }

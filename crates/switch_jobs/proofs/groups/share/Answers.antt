@@ -92,4 +92,8 @@ returns-clause-shared c =
     let card = at.invariant.card in
     let count = c.requires.members.count in
     let all : at.card ≡ c.args.board.now.seats = omega arith in
-    record { groups_are = subst (λ k. AreGroups c.args.board.now k at.groups.items) all at.invariant.groups; planned = at.invariant.planned; unrefused = at.invariant.unrefused }
+    record {
+      groups_are = subst (λ k. AreGroups c.args.board.now k at.groups.items) all at.invariant.groups;
+      planned = at.invariant.planned;
+      unrefused = at.invariant.unrefused;
+    }

@@ -109,7 +109,8 @@ returns-clause-run g c =
       outputs = output_is r.terms cards c.ready.invariant.good c.ready.invariant.burst state hands made outputs left;
       summary = c.summarize-summary.ensures
           ∙ (ap (summary_in r.terms c.journal-journal.result) c.deref-2.ensures.value
-          ∙ summary_is r.terms cards c.ready.invariant.good c.ready.invariant.burst state hands made outputs left c.journal-journal.result setup slots c.ready.invariant.packets);
+          ∙ summary_is r.terms cards c.ready.invariant.good c.ready.invariant.burst state hands made outputs left c.journal-journal.result setup slots
+          c.ready.invariant.packets);
     })
 
 pub returns-clause-tried : goal.returns-clause-tried
