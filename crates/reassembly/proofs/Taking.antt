@@ -1,5 +1,5 @@
 -- A flow takes the cells of a message, one after the other.
-use Rattle.std.proofs.Common.{◌≡◌, ◌∙◌, ℕ, ◌+◌, ◌-◌, ◌*◌, ◌<◌, ◌≤◌, true, false, cond, leb, List, [], ◌++◌, length, length-append}
+use Rattle.std.proofs.Common.{◌≡◌, ◌∙◌, ℕ, ◌+◌, ◌-◌, ◌*◌, ◌<◌, ◌≤◌, true, false, cond, leb, List, ◌++◌, length, length-append}
 use Rattle.std.proofs.Common.{take, ap, sym, arith}
 use Rattle.std.proofs.lemmas.Bool.{le-leb, lt-leb}
 use Rattle.std.proofs.lemmas.List.{take_all, length-take}
@@ -19,19 +19,27 @@ bytes-more : (size input level k : ℕ) (kind : Kind) (message : List ℕ)
 bytes-more size input level k kind message =
     ap (λ bytes. take (56 * k) message ++ bytes) (take-padded (part k message)) ∙ sym (take-add (56 * k) 56 message)
 
--- the next cell of a message fits where the message does
-pub Fits-next : (all : Flows) (size input level k : ℕ) (kind : Kind) (message : List ℕ) → all.ports ≤ 64 → input < all.ports → level < 4
-    → length message ≤ 65551 → length message ≤ size → k < cells_in (length message)
+-- cell k of a message may come, of a flow that has room for the message
+pub record MayCome (all : Flows) (size input level k : ℕ) (message : List ℕ) : Type 0 where
+  pub ports : all.ports ≤ 64
+  pub input_in : input < all.ports
+  pub level_in : level < 4
+  pub few : length message ≤ 65551
+  pub room : length message ≤ size
+  pub more : k < cells_in (length message)
+
+-- it fits where the cells before it stand
+pub Fits-next : (all : Flows) (size input level k : ℕ) (kind : Kind) (message : List ℕ) → MayCome all size input level k message
     → flow_of all (cell_of input level kind message k) ≡ begun_with size message k → Fits all (cell_of input level kind message k)
-Fits-next all size input level k kind message ports input_in level_in few room more stands =
+Fits-next all size input level k kind message may stands =
     let cell : Cell = cell_of input level kind message k in
     let count : length (take (56 * k) message) + length (part k message) ≡ length (take (56 * k + 56) message) =
     sym (length-append (take (56 * k) message) (part k message)) ∙ ap length (sym (take-add (56 * k) 56 message)) in
     record {
-      form = IsCellForm-cell_of input level kind message k (omega arith) level_in few more;
-      input = input_in;
+      form = IsCellForm-cell_of input level kind message k (omega (arith, may.ports, may.input_in)) may.level_in may.few may.more;
+      input = may.input_in;
       next = sym (ap (λ f. f.next) stands);
-      room = omega (arith, ap (λ f. length f.bytes) stands, ap (λ f. f.size) stands, count, length-take (56 * k + 56) message);
+      room = omega (arith, ap (λ f. length f.bytes) stands, ap (λ f. f.size) stands, count, length-take (56 * k + 56) message, may.room);
     }
 
 -- with a cell that is not the last, one cell more stands

@@ -140,8 +140,14 @@ module _ (scheduler : Scheduler) (scheduling : IsScheduler scheduler) (plan : Sw
         ∙ ap (place_of i level) kinds in
         let room : length m ≤ flow.size = omega (arith, ap length of.is, size, enough, ap (slice_index (card_at plan j).sizes) at) in
         let few : length m ≤ 65551 = omega (arith, ap length of.is, message-long card mine.good of.place p of.there, planned.forwarded of.routed) in
-        subst (Fits r.flows) (sym next.is)
-        (Fits-next r.flows flow.size i level k kind m (omega (arith, ports, mine.good.size, mine.ports)) (omega (arith, ports)) below few room next.few begun)
+        subst (Fits r.flows) (sym next.is) (Fits-next r.flows flow.size i level k kind m (record {
+          ports = omega (arith, ports, mine.good.size, mine.ports);
+          input_in = omega (arith, ports);
+          level_in = below;
+          few = few;
+          room = room;
+          more = next.few;
+        }) begun)
 
   fits_some : (j t : ℕ) (r : Received) (o : Option Cell) → j < ports_of plan → HasReceived (card_at plan j) r (cells_under scheduler plan j (suc t))
       → crossed_under scheduler (setup_for plan) (posts_under scheduler plan) j (suc t) ≡ o → MayReceiveAny r o

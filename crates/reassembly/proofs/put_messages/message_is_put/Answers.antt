@@ -2,7 +2,9 @@ use Rattle.reassembly.proofs.Taking.{Fits-next, with_cell-more, with_cell-last, 
 use Rattle.reassembly.proofs.put_messages.message_is_put.Goals as goal
 
 pub returns-clause-fits : goal.returns-clause-fits
-returns-clause-fits c = Fits-next
+returns-clause-fits c all size input level k kind message ports input_in level_in few room more =
+    Fits-next all size input level k kind message
+    (record { ports = ports; input_in = input_in; level_in = level_in; few = few; room = room; more = more })
 
 pub returns-clause-more : goal.returns-clause-more
 returns-clause-more c = last-more
