@@ -6,9 +6,8 @@ use Rattle.std.specs.List.{range_with_len, flat_map}
 use Rattle.std.proofs.lemmas.List.{take_all, drop-drop}
 use Rattle.std.proofs.Math.Seq.{take-add}
 use Rattle.rotating_pick.specs.declared.kinds.Kind.{Kind}
-use Rattle.cell_cutter.specs.declared.cell.Cell.{Cell}
 use Rattle.cell_cutter.specs.Messages.{message, cells_in}
-use Rattle.cell_cutter.specs.Cells.{IsCellForm, IsUsed, cell_of, part, padded, used_bytes, cells_of_message}
+use Rattle.cell_cutter.specs.Cells.{IsCellForm, IsUsed, cell_of, part, used_bytes, cells_of_message}
 use Rattle.cell_cutter.proofs.Payloads.{length-part, length-padded, drop-padded, take-padded}
 
 -- a cell is full where the message goes on, and has some byte where it is one of the message's
@@ -36,13 +35,6 @@ last_by_left m k left some e =
       | inl more ↦ lt-leb _ _ more ∙ sym (lt-leb m (56 * k + 56) (omega arith))
       | inr few ↦ le-leb _ _ few ∙ sym (le-leb m (56 * k + 56) (omega arith))
     ]
-
--- a cell by its fields, where they are those of cell k
-pub cell_by_fields : (input level : ℕ) (kind : Kind) (message : List ℕ) (k used : ℕ) (last : Bool) (payload : List ℕ)
-    → last ≡ leb (length message) (56 * k + 56) → used ≡ length (part k message) → payload ≡ padded (part k message)
-    → ◌≡◌ {A = Cell} (record { input = input; level = level; kind = kind; last = last; used = used; number = k; payload = payload })
-    (cell_of input level kind message k)
-cell_by_fields input level kind message k used last payload lasts useds payloads = rw (lasts, useds, payloads) refl
 
 -- the used bytes of n cells from cell a on
 joined_from : (input level : ℕ) (kind : Kind) (message : List ℕ) (a n : ℕ)

@@ -1,7 +1,6 @@
 -- The payload of a cell, by the blocks in which it is written.
 use Rattle.std.proofs.Common.{◌≡◌, ℕ, ◌+◌, ◌-◌, ◌*◌, ◌<◌, ◌≤◌, List, ◌++◌, length, take, drop, min, replicate, refl, arith, sym, ap, ◌∙◌, append_assoc}
 use Rattle.std.proofs.Common.{length-append, length-take, length-drop}
-use Rattle.std.specs.Int.{w32, to_be_bytes}
 use Rattle.std.proofs.lemmas.List.{drop-replicate, take_min, drop-drop, drop_at, take_at, length-replicate}
 use Rattle.std.proofs.Math.Seq.{take-append-add}
 use borrow.Rule.Slice.PartMut.{put_mid}
@@ -16,13 +15,6 @@ pub length-message : (seconds nanos original : ℕ) (bytes : List ℕ) → lengt
 length-message seconds nanos original bytes =
     length-append (message_header seconds nanos (length bytes) original) bytes
     ∙ ap (λ n. n + length bytes) (length-message_header seconds nanos (length bytes) original)
-
--- a header is its four fields, written one after the other
-pub four_fields : (a b c d : List ℕ) (seconds nanos captured original : ℕ) → a ≡ to_be_bytes w32 seconds → b ≡ to_be_bytes w32 nanos
-    → c ≡ to_be_bytes w32 captured → d ≡ to_be_bytes w32 original
-    → put_mid 12 4 (put_mid 8 4 (put_mid 4 4 (a ++ replicate 12 0) b) c) d ≡ message_header seconds nanos captured original
-unfolding message_header
-four_fields a b c d seconds nanos captured original e f g h = rw (e, f, g, h) refl
 
 -- zeros stand after bytes that were written over the front of zeros
 pub padded_after : (bytes : List ℕ) → length bytes ≤ 56 → bytes ++ drop (length bytes) (replicate 56 0) ≡ padded bytes

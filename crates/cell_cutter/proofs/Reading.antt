@@ -16,12 +16,13 @@ eight_and_rest bytes h =
     let i = drop_more bytes 7 0 (omega arith) in
     cc
 
--- a cell's fields, spelled again, are the bytes that they were read from
-pub spelled_again : (bytes payload : List ℕ) (kind last number : ℕ) → length bytes ≡ 64 → get_or bytes 6 0 < 256 → get_or bytes 7 0 < 256
-    → kind ≡ get_or bytes 2 0 → last ≡ get_or bytes 3 0 → get_or bytes 5 0 ≡ 0 → number ≡ get_or bytes 6 0 * 256 + get_or bytes 7 0 → payload ≡ drop 8 bytes
-    → get_or bytes 0 0 ∷ get_or bytes 1 0 ∷ kind ∷ last ∷ get_or bytes 4 0 ∷ 0 ∷ number / 256 % 256 ∷ number % 256 ∷ payload ≡ bytes
-spelled_again bytes payload kind last number len high_fits low_fits kinds lasts blank numbers payloads =
+-- a number of two bytes, spelled again, is the bytes that it was read from
+pub spelled_again : (bytes : List ℕ) (number : ℕ) → length bytes ≡ 64 → ((i : ℕ) → get_or bytes i 0 < 256) → get_or bytes 5 0 ≡ 0
+    → number ≡ get_or bytes 6 0 * 256 + get_or bytes 7 0
+    → get_or bytes 0 0 ∷ get_or bytes 1 0 ∷ get_or bytes 2 0 ∷ get_or bytes 3 0 ∷ get_or bytes 4 0
+    ∷ 0 ∷ number / 256 % 256 ∷ number % 256 ∷ drop 8 bytes ≡ bytes
+spelled_again bytes number len fits blank numbers =
     let all = eight_and_rest bytes (omega arith) in
-    let high : number / 256 % 256 ≡ get_or bytes 6 0 = omega arith in
-    let low : number % 256 ≡ get_or bytes 7 0 = omega arith in
+    let high : number / 256 % 256 ≡ get_or bytes 6 0 = omega (arith, fits 6, fits 7) in
+    let low : number % 256 ≡ get_or bytes 7 0 = omega (arith, fits 7) in
     cc

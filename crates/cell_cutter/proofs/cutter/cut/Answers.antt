@@ -3,7 +3,7 @@ use Rattle.cell_cutter.specs.Messages.{message}
 use Rattle.cell_cutter.specs.Cells.{IsCellForm, cell_of, part}
 use Rattle.cell_cutter.specs.declared.cell.Cell.{Cell}
 use Rattle.cell_cutter.proofs.Payloads.{length-message, length-part}
-use Rattle.cell_cutter.proofs.Forms.{IsCellForm-cell_of, last_by_left, cell_by_fields}
+use Rattle.cell_cutter.proofs.Forms.{IsCellForm-cell_of, last_by_left}
 use Rattle.cell_cutter.proofs.cutter.cut.Goals as goal
 
 -- the cell that is made is the one that the message has
@@ -24,8 +24,16 @@ is_cell c =
     let some : 56 * c.args.k < length all = omega (arith, c.requires.number) in
     let left : 16 + length p.bytes.now - c.from.result * 56 + 56 * c.args.k ≡ length all = omega (arith, c.from.ensures) in
     let used : c.min-used.result ≡ length (part c.args.k all) = omega (arith, c.min-used.ensures, c.from.ensures, length-part c.args.k all) in
-    cell_by_fields p.input p.level p.kind all c.args.k c.min-used.result _ c.payload_of.result
-    (last_by_left (length all) c.args.k _ some left) used c.payload_of.ensures
+    let last = last_by_left (length all) c.args.k _ some left in
+    λ j. record {
+      input = p.input;
+      level = p.level;
+      kind = p.kind;
+      last = last j;
+      used = used j;
+      number = c.args.k;
+      payload = c.payload_of.ensures j;
+    }
 
 pub returns-clause-cell : goal.returns-clause-cell
 returns-clause-cell c = is_cell c
