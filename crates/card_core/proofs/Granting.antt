@@ -143,12 +143,12 @@ module _ (plan : Plan) (good : IsGoodPlan plan) (q : Queue) (j : ℕ) where
       let left = (Decides-has rest j).0 both.0 in
       (Decides-has next j).1 (of.1 (left, λ given. false_not (serves q j part) both.1 (back (tells.1 given) left))))
 
-  part_if : (s : Passed) (part : Option Served) (c : FanCell) (v : List FanCell) (b : Bool) → waiting s ≡ c ∷ v → IsKept plan q s
-      → (rest_of q (with_since s (part ∷ s.since)) == 0) ≡ b
+  part_if : (s : Passed) (part : Option Served) (c : FanCell) (v : List FanCell) → waiting s ≡ c ∷ v → IsKept plan q s
       → (serves q j part ≡ true → has (rest_of q s) j ≡ true)
       → has (rest_of q (with_since s (part ∷ s.since))) j ≡ (has (rest_of q s) j && not (serves q j part))
-      → given_of s ++ (if serves q j part then first_of (waiting s) else []) ≡ given_of (if b then head_gone s else with_since s (part ∷ s.since))
-  part_if s part c v b is kept rest named after =
+      → given_of s ++ (if serves q j part then first_of (waiting s) else [])
+      ≡ given_of (if rest_of q (with_since s (part ∷ s.since)) == 0 then head_gone s else with_since s (part ∷ s.since))
+  part_if s part c v is kept named after =
       let out = to_output j (take s.left s.entered) in
       let goes = has (first_fan (waiting s)) j in
       let left = has (rest_of q s) j in
@@ -158,7 +158,7 @@ module _ (plan : Plan) (good : IsGoodPlan plan) (q : Queue) (j : ℕ) where
       ap (λ w. (if goes && not left then first_of w else []) ++ (if serves q j part then first_of w else [])) is
       ∙ pieces goes left next (serves q j part) c named among e in
       let start = append_assoc out (begun_for q j s) (if serves q j part then first_of (waiting s) else []) in
-      elim b as (λ v'. (rest_of q (with_since s (part ∷ s.since)) == 0) ≡ v'
+      elim (rest_of q (with_since s (part ∷ s.since)) == 0) as (λ v'. (rest_of q (with_since s (part ∷ s.since)) == 0) ≡ v'
       → given_of s ++ (if serves q j part then first_of (waiting s) else []) ≡ given_of (if v' then head_gone s else with_since s (part ∷ s.since))) [
         | true ↦ λ none.
             let zero' : rest_of q (with_since s (part ∷ s.since)) ≡ 0 = eqb-true (rest_of q (with_since s (part ∷ s.since))) 0 none in
@@ -174,7 +174,7 @@ module _ (plan : Plan) (good : IsGoodPlan plan) (q : Queue) (j : ℕ) where
             start
             ∙ ap (λ xs. out ++ xs) (joined (has (rest_of q (with_since s (part ∷ s.since))) j) after
             ∙ ap (λ w. if goes && not (has (rest_of q (with_since s (part ∷ s.since))) j) then first_of w else []) (sym is))
-      ] rest
+      ] refl
 
   part_case : (s : Passed) (part : Option Served) (w : List FanCell) → waiting s ≡ w → IsKept plan q s
       → (serves q j part ≡ true → has (rest_of q s) j ≡ true)
@@ -187,7 +187,7 @@ module _ (plan : Plan) (good : IsGoodPlan plan) (q : Queue) (j : ℕ) where
       ∙ append-nil (out ++ begun_for q j s)
       ∙ ap (λ xs. out ++ xs) (begun_none s is ∙ sym (begun_none (with_since s []) is))
   part_case s part (c ∷ v) is kept named after =
-      part_if s part c v (rest_of q (with_since s (part ∷ s.since)) == 0) is kept refl named after
+      part_if s part c v is kept named after
 
 -- ---- the slots
 module _ (plan : Plan) (good : IsGoodPlan plan) (served : List (Option Served)) where
