@@ -1,12 +1,11 @@
 -- All slots of a file, read and judged one after another, and the answer to the file.
-use Rattle.std.proofs.Common.{◌≡◌, ℕ, ◌+◌, ◌<◌, ◌≤◌, ◌∙◌, List, [], ◌∷◌, ◌++◌, length, drop, Result, Ok, Err, refl, sym, ap, subst, arith}
+use Rattle.std.proofs.Common.{◌≡◌, ℕ, ◌<◌, ◌≤◌, ◌∙◌, List, [], ◌∷◌, length, drop, Result, Ok, Err, refl, ap, arith}
 use Rattle.std.specs.List.{range_with_len}
-use Rattle.std.proofs.lemmas.List.{length_push, length-drop, nil_from_length}
+use Rattle.std.proofs.lemmas.List.{length-drop, nil_from_length}
 use Rattle.eslip_rounds.specs.Schedulers.{Scheduler}
 use Rattle.scheduler_names.specs.declared.names.SchedulerName.{SchedulerName}
 use Rattle.named_schedulers.specs.Named.{decision_named}
 use Rattle.journal_check.specs.declared.header.Header.{Header}
-use Rattle.journal_check.specs.declared.slots.SlotRead.{SlotRead}
 use Rattle.journal_check.specs.declared.judge.Judge.{Judge}
 use Rattle.journal_check.specs.declared.verdict.Verdict.{Verdict}
 use Rattle.journal_check.specs.declared.verdict.JournalFault.{JournalFault}
@@ -14,8 +13,8 @@ use Rattle.journal_check.specs.declared.verdict.JournalFault.TheVariants.{Bad}
 use Rattle.journal_check.specs.Fields.{Reading, each_in}
 use Rattle.journal_check.specs.Files.{FileSlot, JournalFile, slot_in, header_in, end_in, file_in, place_in, told_by, journal_in}
 use Rattle.journal_check.specs.Verdicts.{verdict_under, answer_by, answer_under}
-use Rattle.journal_check.specs.Steps.{IsRead, IsBadAt, IsSlotRead, IsFor, IsJudged}
-use Rattle.journal_check.proofs.Loops.{with_front, left_in, step_ok, step_err}
+use Rattle.journal_check.specs.Steps.{IsRead, IsBadAt, IsFor, IsJudged}
+use Rattle.journal_check.proofs.Loops.{with_front, left_in, step_err}
 
 module _ (name : SchedulerName) where
   -- the first t slots are read and judged, and the next stands at `at`
@@ -29,35 +28,11 @@ module _ (name : SchedulerName) where
     pub ready : IsFor n rounds t judge
 
   module _ (n rounds total : ℕ) (bytes : List ℕ) where
-    pub slots_go_on : (t at to : ℕ) (judge new : Judge) (read : SlotRead) (value : FileSlot) → t < total → AreSlotsJudged n rounds total bytes t at judge
-        → IsRead (slot_in n) bytes at value to → IsSlotRead n read value
-        → ((slots : List FileSlot) (v : FileSlot) → t ≡ length slots → IsSlotRead n read v
-        → IsJudged (decision_named judge.scheduler) n judge.rounds slots judge
-        → IsJudged (decision_named judge.scheduler) n judge.rounds (slots ++ v ∷ []) new)
-        → new.scheduler ≡ judge.scheduler → IsFor n judge.rounds (t + 1) new → AreSlotsJudged n rounds total bytes (t + 1) to new
-    slots_go_on t at to judge new read value below so_far here kept judges stays ready =
-        let own = so_far.ready.rounds_are in
-        record {
-          slots = so_far.slots ++ value ∷ [];
-          count = length_push so_far.slots value ∙ ap (λ (k : ℕ). k + 1) so_far.count;
-          within = here.within;
-          whole = step_ok (λ k. slot_in n) (each_in (λ k. slot_in n) (range_with_len 0 total) (drop 12 bytes)) so_far.slots t total (drop at bytes)
-              (drop to bytes) value below so_far.whole here.reads;
-          named = stays ∙ so_far.named;
-          judged = subst (λ (r : ℕ). IsJudged (decision_named name) n r (so_far.slots ++ value ∷ []) new) own
-              (subst (λ (s : SchedulerName). IsJudged (decision_named s) n judge.rounds (so_far.slots ++ value ∷ []) new) so_far.named
-              (judges so_far.slots value (sym so_far.count) kept
-              (subst (λ (s : SchedulerName). IsJudged (decision_named s) n judge.rounds so_far.slots judge) (sym so_far.named)
-              (subst (λ (r : ℕ). IsJudged (decision_named name) n r so_far.slots judge) (sym own) so_far.judged))));
-          ready = subst (λ (r : ℕ). IsFor n r (t + 1) new) own ready;
-        }
-
     pub slots_fail : (t at bad : ℕ) (judge : Judge) → t < total → AreSlotsJudged n rounds total bytes t at judge → IsBadAt (slot_in n) bytes at bad
         → IsBadAt (each_in (λ t. slot_in n) (range_with_len 0 total)) bytes 12 bad
     slots_fail t at bad judge below so_far here = record {
       within = here.within;
-      fails = step_err (λ k. slot_in n) (each_in (λ k. slot_in n) (range_with_len 0 total) (drop 12 bytes)) so_far.slots t total (drop at bytes)
-          (drop bad bytes) below so_far.whole here.fails;
+      fails = so_far.whole ∙ step_err (λ k. slot_in n) so_far.slots t total (drop at bytes) (drop bad bytes) below here.fails;
     }
 
 -- ---- the answer

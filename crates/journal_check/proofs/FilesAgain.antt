@@ -77,30 +77,34 @@ module _ (n : ℕ) (few : n ≤ 64) where
 from_to : (low high x : ℕ) → low ≤ x → x ≤ high → is_from low high x ≡ true
 from_to low high x above below = and_from (nat_le low x) (nat_le x high) (le-leb low x above) (le-leb x high below)
 
-header_again : (ports rounds slots : ℕ) (rest : List ℕ) → 1 ≤ ports → ports ≤ 64 → 1 ≤ rounds → rounds ≤ 64 → 1 ≤ slots → slots ≤ most_slots ports
-    → header_in (header_text ports rounds slots ++ rest) ≡ Ok (record { ports = ports; rounds = rounds; slots = slots }, rest)
+header_again : (file : JournalFile) (rest : List ℕ) → IsFile file → header_in (header_text file.ports file.rounds (length file.slots) ++ rest)
+    ≡ Ok (record { ports = file.ports; rounds = file.rounds; slots = length file.slots }, rest)
 unfolding header_in
-header_again ports rounds slots rest p_low p_high r_low r_high s_low s_high =
+header_again file rest good =
+    let ports = file.ports in
+    let rounds = file.rounds in
+    let slots = length file.slots in
+    let ports_few = good.ports_few in
+    let rounds_few = good.rounds_few in
     let few = most_few ports in
     let from_slots = big_bytes 4 slots ++ rest in
     let from_zeros = 0 ∷ 0 ∷ from_slots in
     rw (number_again Magic 0x54544a31 (ports ∷ rounds ∷ from_zeros) (omega arith) refl)
-    (rw (byte_again Ports refl ports (rounds ∷ from_zeros) (omega arith) (from_to 1 64 ports p_low p_high))
-    (rw (byte_again Rounds refl rounds from_zeros (omega arith) (from_to 1 64 rounds r_low r_high))
+    (rw (byte_again Ports refl ports (rounds ∷ from_zeros) (omega arith) (from_to 1 64 ports good.ports_some ports_few))
+    (rw (byte_again Rounds refl rounds from_zeros (omega arith) (from_to 1 64 rounds good.rounds_some rounds_few))
     (rw (number_again Zeros 0 from_slots (omega arith) refl)
-    (rw (number_again (Slots ports) slots rest (omega arith) (from_to 1 (most_slots ports) slots s_low s_high)) refl))))
+    (rw (number_again (Slots ports) slots rest (omega (arith, few, good.slots_few)) (from_to 1 (most_slots ports) slots good.slots_some good.slots_few))
+    refl))))
 
 file_again : (file : JournalFile) → IsFile file → file_in (file_text file) ≡ Ok (file, [])
 unfolding file_in file_text
 file_again file good =
     let n = file.ports in
     let body = flat_map slot_text file.slots in
-    let header = header_again n file.rounds
-    (length file.slots) body good.ports_some good.ports_few good.rounds_some good.rounds_few good.slots_some good.slots_few in
     let slots : each_in (λ t. slot_in n) (range_with_len 0 (length file.slots)) body ≡ Ok (file.slots, []) =
     ap (each_in (λ t. slot_in n) (range_with_len 0 (length file.slots))) (sym (append-nil body))
     ∙ each_again (slot_in n) slot_text (IsFileSlot n) (slot_again n good.ports_few) file.slots 0 [] good.slots in
-    rw header (rw slots refl)
+    rw (header_again file body good) (rw slots refl)
 
 pub journal_again : (file : JournalFile) → IsFile file → journal_in (file_text file) ≡ Ok file
 unfolding journal_in

@@ -4,6 +4,7 @@ use Rattle.std.specs.List.{flat_map, range_with_len}
 use Rattle.std.proofs.lemmas.Bool.Decides.{Decides-eqb}
 use Rattle.std.proofs.lemmas.List.{append-nil}
 use Rattle.byteorder.specs.Endian.{big_bytes}
+use Rattle.journal_check.specs.declared.fields.Field.{Field}
 use Rattle.journal_check.specs.declared.fields.Field.TheVariants.{Magic, Ports, Rounds, Zeros, Slots}
 use Rattle.journal_check.specs.declared.header.Header.{Header}
 use Rattle.journal_check.specs.Fields.{Reading, number_in, read_on, each_in}
@@ -33,18 +34,33 @@ record IsHeaderText (header : Header) (text : List ℕ) : Type 0 where
   few : header.ports ≤ 64
   spelled : text ≡ header_text header.ports header.rounds header.slots
 
--- The texts of the five fields of a header make the text of the header.
-header_parts : (magic ports rounds padding slots : ℕ) (magic_text ports_text rounds_text padding_text slots_text : List ℕ) → magic_text ≡ big_bytes 4 magic
-    → magic ≡ 0x54544a31 → ports_text ≡ ports ∷ [] → rounds_text ≡ rounds ∷ [] → padding_text ≡ big_bytes 2 padding → padding ≡ 0
-    → slots_text ≡ big_bytes 4 slots
-    → magic_text ++ (ports_text ++ (rounds_text ++ (padding_text ++ (slots_text ++ [])))) ≡ header_text ports rounds slots
-header_parts magic ports rounds padding slots magic_text ports_text rounds_text padding_text slots_text magic_is first ports_is rounds_is padding_is none
-    slots_are =
-    ap (λ (text : List ℕ). text ++ (ports_text ++ (rounds_text ++ (padding_text ++ (slots_text ++ []))))) (magic_is ∙ ap (big_bytes 4) first)
-    ∙ ap (λ (text : List ℕ). big_bytes 4 0x54544a31 ++ text)
-    (two_bytes ports rounds ports_text rounds_text (padding_text ++ (slots_text ++ [])) ports_is rounds_is
-    ∙ ap (λ (text : List ℕ). ports ∷ rounds ∷ (text ++ (slots_text ++ []))) (padding_is ∙ ap (big_bytes 2) none)
-    ∙ ap (λ (text : List ℕ). ports ∷ rounds ∷ 0 ∷ 0 ∷ text) (append-nil slots_text ∙ slots_are))
+-- A field with its number and its text.
+record FieldText (field : Field) : Type 0 where
+  number : ℕ
+  text : List ℕ
+  is : IsSpelled field number text
+
+-- The five fields of a header make its text, and it has at most 64 ports.
+header_parts : (magic : FieldText Magic) (ports : FieldText Ports) (rounds : FieldText Rounds) (zeros : FieldText Zeros)
+    (slots : FieldText (Slots ports.number))
+    → IsHeaderText (record { ports = ports.number; rounds = rounds.number; slots = slots.number })
+    (magic.text ++ (ports.text ++ (rounds.text ++ (zeros.text ++ (slots.text ++ [])))))
+header_parts magic ports rounds zeros slots =
+    let few : ports.number ≤ 64 = (from_bounds 1 64 ports.number ports.is.1).1 in
+    let short : rounds.number ≤ 64 = (from_bounds 1 64 rounds.number rounds.is.1).1 in
+    let rest = zeros.text ++ (slots.text ++ []) in
+    record {
+      few = few;
+      spelled =
+          ap (λ (text : List ℕ). text ++ (ports.text ++ (rounds.text ++ rest)))
+          (magic.is.0 ∙ ap (big_bytes 4) ((Decides-eqb magic.number 0x54544a31).0 magic.is.1))
+          ∙ ap (λ (text : List ℕ). big_bytes 4 0x54544a31 ++ text)
+          (two_bytes ports.number rounds.number ports.text rounds.text rest
+          (ports.is.0 ∙ one_byte ports.number (omega arith)) (rounds.is.0 ∙ one_byte rounds.number (omega arith))
+          ∙ ap (λ (text : List ℕ). ports.number ∷ rounds.number ∷ (text ++ (slots.text ++ [])))
+          (zeros.is.0 ∙ ap (big_bytes 2) ((Decides-eqb zeros.number 0).0 zeros.is.1))
+          ∙ ap (λ (text : List ℕ). ports.number ∷ rounds.number ∷ 0 ∷ 0 ∷ text) (append-nil slots.text ∙ slots.is.0));
+    }
 
 -- What is read as a header is spelled, and has at most 64 ports.
 header_spelled : (bytes : List ℕ) → AreBytes bytes → Spells IsHeaderText bytes (header_in bytes)
@@ -61,16 +77,12 @@ header_spelled bytes are =
     (λ padding padding_text after_padding after_padding_are padding_is.
     spells_on (IsSpelled (Slots ports)) (λ header text. IsHeaderText header (magic_text ++ (ports_text ++ (rounds_text ++ (padding_text ++ text)))))
     after_padding (number_in (Slots ports) after_padding) _ after_padding_are (number_spelled (Slots ports) after_padding after_padding_are)
-    (λ slots slots_text rest rest_are slots_are.
-    let few : ports ≤ 64 = (from_bounds 1 64 ports ports_is.1).1 in
-    let short : rounds ≤ 64 = (from_bounds 1 64 rounds rounds_is.1).1 in
+    (λ slots slots_text rest rest_are slots_is.
     ends_here (λ header text. IsHeaderText header (magic_text ++ (ports_text ++ (rounds_text ++ (padding_text ++ (slots_text ++ text))))))
-    (record { ports = ports; rounds = rounds; slots = slots }) rest (record {
-      few = few;
-      spelled = header_parts magic ports rounds padding slots magic_text ports_text rounds_text padding_text slots_text magic_is.0
-          ((Decides-eqb magic 0x54544a31).0 magic_is.1) (ports_is.0 ∙ one_byte ports (omega arith)) (rounds_is.0 ∙ one_byte rounds (omega arith))
-          padding_is.0 ((Decides-eqb padding 0).0 padding_is.1) slots_are.0;
-    }))))))
+    (record { ports = ports; rounds = rounds; slots = slots }) rest
+    (header_parts (record { number = magic; text = magic_text; is = magic_is }) (record { number = ports; text = ports_text; is = ports_is })
+    (record { number = rounds; text = rounds_text; is = rounds_is }) (record { number = padding; text = padding_text; is = padding_is })
+    (record { number = slots; text = slots_text; is = slots_is })))))))
 
 -- a file that is read has no other text
 abbrev IsWhole : List ℕ → Reading JournalFile → Type 0
@@ -87,15 +99,15 @@ file_spelled bytes are =
     (each_in (λ t. slot_in header.ports) (range_with_len 0 header.slots) after_header) _ after_header_are
     (each_spelled slot_text (slot_in header.ports) (slot_spelled header.ports header_is.few) header.slots 0 after_header after_header_are) (λ bad. tt)
     (λ slots slots_bytes after_slots slots_whole after_slots_are slots_are.
-    last header slots head_text slots_bytes after_header after_slots whole slots_whole header_is slots_are)) where
-      last : (header : Header) (slots : List FileSlot) (head_text slots_bytes after_header after_slots : List ℕ) → bytes ≡ head_text ++ after_header
-          → after_header ≡ slots_bytes ++ after_slots → IsHeaderText header head_text → AreSpelled slot_text header.slots slots slots_bytes
+    last header slots head_text slots_bytes after_slots (whole ∙ ap (λ (text : List ℕ). head_text ++ text) slots_whole) header_is slots_are)) where
+      last : (header : Header) (slots : List FileSlot) (head_text slots_bytes after_slots : List ℕ) → bytes ≡ head_text ++ (slots_bytes ++ after_slots)
+          → IsHeaderText header head_text → AreSpelled slot_text header.slots slots slots_bytes
           → IsWhole bytes (read_on (end_in after_slots) (λ nothing rest. Ok (record { ports = header.ports; rounds = header.rounds; slots = slots }, rest)))
-      last header slots head_text slots_bytes after_header [] whole slots_whole header_is slots_are =
-          whole ∙ ap (λ (text : List ℕ). text ++ after_header) header_is.spelled
-          ∙ ap (λ (text : List ℕ). header_text header.ports header.rounds header.slots ++ text) (slots_whole ∙ append-nil slots_bytes ∙ slots_are.1)
+      last header slots head_text slots_bytes [] whole header_is slots_are =
+          whole ∙ ap (λ (text : List ℕ). text ++ (slots_bytes ++ [])) header_is.spelled
+          ∙ ap (λ (text : List ℕ). header_text header.ports header.rounds header.slots ++ text) (append-nil slots_bytes ∙ slots_are.1)
           ∙ ap (λ (count : ℕ). header_text header.ports header.rounds count ++ flat_map slot_text slots) (sym slots_are.0)
-      last header slots head_text slots_bytes after_header (byte ∷ after_slots) whole slots_whole header_is slots_are = tt
+      last header slots head_text slots_bytes (byte ∷ after_slots) whole header_is slots_are = tt
 
 -- The file that a reading tells has the bytes as its text.
 told_whole : (bytes : List ℕ) (file : JournalFile) (reading : Reading JournalFile) → told_by bytes reading ≡ Ok file → IsWhole bytes reading

@@ -47,16 +47,12 @@ module _ {X : Type 0} where
         let e : n ≡ n - 0 = omega arith in
         front_none (each_in read (range_with_len 0 n) here) ∙ ap (λ (k : ℕ). with_front [] (each_in read (range_with_len 0 k) here)) e
 
-    pub step_ok : (whole : Reading (List X)) (done : List X) (i n : ℕ) (here next : List ℕ) (x : X) → i < n → whole ≡ with_front done (left_in read i n here)
-        → read i here ≡ Ok (x, next) → whole ≡ with_front (done ++ x ∷ []) (left_in read (i + 1) n next)
-    step_ok whole done i n here next x below so_far e =
-        so_far ∙ ap (with_front done) (left_ok i n here next x below e) ∙ front_more done x (left_in read (i + 1) n next)
+    pub step_ok : (done : List X) (i n : ℕ) (here next : List ℕ) (x : X) → i < n → read i here ≡ Ok (x, next)
+        → with_front done (left_in read i n here) ≡ with_front (done ++ x ∷ []) (left_in read (i + 1) n next)
+    step_ok done i n here next x below e = ap (with_front done) (left_ok i n here next x below e) ∙ front_more done x (left_in read (i + 1) n next)
 
-    pub step_err : (whole : Reading (List X)) (done : List X) (i n : ℕ) (here bad : List ℕ) → i < n → whole ≡ with_front done (left_in read i n here)
-        → read i here ≡ Err bad → whole ≡ Err bad
-    step_err whole done i n here bad below so_far e = so_far ∙ ap (with_front done) (left_err i n here bad below e)
+    pub step_err : (done : List X) (i n : ℕ) (here bad : List ℕ) → i < n → read i here ≡ Err bad → with_front done (left_in read i n here) ≡ Err bad
+    step_err done i n here bad below e = ap (with_front done) (left_err i n here bad below e)
 
-    pub step_end : (whole : Reading (List X)) (done : List X) (n : ℕ) (here : List ℕ) → whole ≡ with_front done (left_in read n n here)
-        → whole ≡ Ok (done, here)
-    step_end whole done n here so_far = so_far ∙ ap (with_front done) (left_none n here)
-        ∙ ap (λ (xs : List X). let r : Reading (List X) = Ok (xs, here) in r) (append-nil done)
+    pub step_end : (done : List X) (n : ℕ) (here : List ℕ) → with_front done (left_in read n n here) ≡ Ok (done, here)
+    step_end done n here = ap (with_front done) (left_none n here) ∙ ap (λ (xs : List X). let r : Reading (List X) = Ok (xs, here) in r) (append-nil done)

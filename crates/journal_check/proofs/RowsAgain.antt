@@ -1,12 +1,14 @@
 -- What is spelled of a row, a post, an output and a slot is read again.
-use Rattle.std.proofs.Common.{◌≡◌, ℕ, ◌-◌, ◌^◌, ◌<◌, ◌≤◌, ◌==◌, ◌∙◌, not, Bool, true, false, nat_le, List, [], ◌∷◌, ◌++◌, length, get_or, slice_index}
-use Rattle.std.proofs.Common.{Ok, refl, sym, ap, subst, arith, inl, inr, append_assoc, le-leb}
+use Rattle.std.proofs.Common.{◌≡◌, ℕ, suc, ◌+◌, ◌-◌, ◌^◌, ◌<◌, ◌≤◌, ◌==◌, ◌∙◌, not, Bool, true, false, nat_le, List, [], ◌∷◌, ◌++◌, length, get_or, slice_index}
+use Rattle.std.proofs.Common.{Ok, All, refl, sym, ap, subst, arith, inl, inr, append_assoc, le-leb}
 use Rattle.std.specs.Bool.{Decides, one_answer}
-use Rattle.std.specs.List.{flat_map}
+use Rattle.std.specs.List.{flat_map, range_with_len}
 use Rattle.std.specs.Int.{bit_at}
 use Rattle.std.proofs.lemmas.Bool.{cond-true, cond-false, and_from, cases_eq, cases_Bool, eq-eqb}
 use Rattle.std.proofs.lemmas.Bool.Decides.{Decides-eqb}
 use Rattle.std.proofs.lemmas.Grind.{flat_map-append}
+use Rattle.std.proofs.lemmas.List.{get_or-append-add, get_or_append_left}
+use Rattle.std.proofs.lemmas.List.Elements.{All-tail}
 use Rattle.std.proofs.Math.Nat.{pow-le-pow_right}
 use Rattle.byteorder.specs.Endian.{big_bytes}
 use Rattle.slot_match.specs.declared.rows.Row.{Row}
@@ -68,21 +70,18 @@ sets_again n sets (k ∷ ks) (x ∷ xs) rest few marked =
     ∙ ap (λ (r : Reading ℕ). read_on r next) (set_again n sets k x tail few marked.0 marked.1)
     ∙ ap (λ (r : Reading (List ℕ)). read_on r (λ ys left. let q : Reading (List ℕ) = Ok (x ∷ ys, left) in q)) (sets_again n sets ks xs rest few marked.2)
 
--- the four numbers of a list of four
-pub record AreFour (xs : List ℕ) : Type 0 where
-  pub a : ℕ
-  pub b : ℕ
-  pub c : ℕ
-  pub d : ℕ
-  pub are : xs ≡ a ∷ b ∷ c ∷ d ∷ []
-
-pub four_of : (xs : List ℕ) → length xs ≡ 4 → AreFour xs
-four_of [] len = absurd (omega arith)
-four_of (a ∷ []) len = absurd (omega arith)
-four_of (a ∷ b ∷ []) len = absurd (omega arith)
-four_of (a ∷ b ∷ c ∷ []) len = absurd (omega arith)
-four_of (a ∷ b ∷ c ∷ d ∷ []) len = record { a = a; b = b; c = c; d = d; are = refl }
-four_of (a ∷ b ∷ c ∷ d ∷ e ∷ xs) len = absurd (omega arith)
+-- sets of which these bits tell whether they are not empty
+marked_from : (n sets first : ℕ) (xs : List ℕ) → ((k : ℕ) → k < length xs → (bit_at sets (first + k) == 1) ≡ not (slice_index xs k == 0))
+    → All (λ set. set < 2 ^ n) xs → AreMarked n sets (range_with_len first (length xs)) xs
+marked_from n sets first [] bits within = tt
+marked_from n sets first (x ∷ xs) bits within = (
+  subst (λ (k : ℕ). (bit_at sets k == 1) ≡ not (x == 0)) (let here : first + 0 ≡ first = omega arith in here) (bits 0 (omega arith)),
+  within 0 0 (omega arith),
+  marked_from n sets (first + 1) xs
+      (λ k below. subst (λ (i : ℕ). (bit_at sets i == 1) ≡ not (slice_index xs k == 0)) (let next : first + suc k ≡ first + 1 + k = omega arith in next)
+      (bits (suc k) (omega arith)))
+      (All-tail (λ set. set < 2 ^ n) x xs within),
+)
 
 -- a byte that a field of one byte may have is read
 pub byte_again : (field : Field) → len_of field ≡ 1 → (x : ℕ) (rest : List ℕ) → x < 256 → allows field x ≡ true → number_in field (x ∷ rest) ≡ Ok (x, rest)
@@ -110,46 +109,33 @@ bit_tells xs k below =
     one_answer (bit_at sets k == 1) (test k) marked (λ e. e, λ e. e)
 
 module _ (n : ℕ) (few : n ≤ 64) where
-  eight_again : (a b c d e f g h : ℕ) (rest : List ℕ) → a < 2 ^ n → b < 2 ^ n → c < 2 ^ n → d < 2 ^ n → e < 2 ^ n → f < 2 ^ n → g < 2 ^ n → h < 2 ^ n
-      → let row : Row = record { uni = a ∷ b ∷ c ∷ d ∷ []; multi = e ∷ f ∷ g ∷ h ∷ [] } in
-      row_in n (sets_there row) (flat_map set_text (all_sets row) ++ rest) ≡ Ok (row, rest)
+  pub row_again : (row : Row) (rest : List ℕ) → IsFileRow n row → row_in n (sets_there row) (flat_map set_text (all_sets row) ++ rest) ≡ Ok (row, rest)
   unfolding row_in
-  eight_again a b c d e f g h rest la lb lc ld le lf lg lh =
-      let xs = a ∷ b ∷ c ∷ d ∷ e ∷ f ∷ g ∷ h ∷ [] in
-      let uni = a ∷ b ∷ c ∷ d ∷ [] in
-      let multi = e ∷ f ∷ g ∷ h ∷ [] in
-      let sets = set_of 8 (λ bit. not (slice_index xs bit == 0)) in
+  row_again row rest good =
+      let uni = row.uni in
+      let multi = row.multi in
+      let four = good.uni_levels in
+      let also = good.multi_levels in
+      let sets = sets_there row in
       let tail = flat_map set_text multi ++ rest in
-      let text : flat_map set_text xs ++ rest ≡ flat_map set_text uni ++ tail = ap (λ (t : List ℕ). t ++ rest) (flat_map-append set_text uni multi)
-      ∙ append_assoc (flat_map set_text uni) (flat_map set_text multi) rest in
+      let text : flat_map set_text (all_sets row) ++ rest ≡ flat_map set_text uni ++ tail =
+      ap (λ (t : List ℕ). t ++ rest) (flat_map-append set_text uni multi) ∙ append_assoc (flat_map set_text uni) (flat_map set_text multi) rest in
       let low : AreMarked n sets (0 ∷ 1 ∷ 2 ∷ 3 ∷ []) uni =
-      (bit_tells xs 0 (omega arith), la, (bit_tells xs 1 (omega arith), lb, (bit_tells xs 2 (omega arith), lc, (bit_tells xs 3 (omega arith), ld, tt)))) in
+      subst (λ (k : ℕ). AreMarked n sets (range_with_len 0 k) uni) four
+      (marked_from n sets 0 uni (λ k below. bit_tells (all_sets row) (0 + k) (omega arith)
+      ∙ ap (λ (x : ℕ). not (x == 0)) (ap (λ (i : ℕ). get_or (all_sets row) i 0) (let e : 0 + k ≡ k = omega arith in e)
+      ∙ get_or_append_left uni multi 0 k below)) good.uni_within) in
       let high : AreMarked n sets (4 ∷ 5 ∷ 6 ∷ 7 ∷ []) multi =
-      (bit_tells xs 4 (omega arith), le, (bit_tells xs 5 (omega arith), lf, (bit_tells xs 6 (omega arith), lg, (bit_tells xs 7 (omega arith), lh, tt)))) in
-      let first : each_in (set_in n sets) (0 ∷ 1 ∷ 2 ∷ 3 ∷ []) (flat_map set_text xs ++ rest) ≡ Ok (uni, tail) =
+      subst (λ (k : ℕ). AreMarked n sets (range_with_len 4 k) multi) also
+      (marked_from n sets 4 multi (λ k below. bit_tells (all_sets row) (4 + k) (omega arith)
+      ∙ ap (λ (x : ℕ). not (x == 0)) (ap (λ (m : ℕ). get_or (all_sets row) (m + k) 0) (sym four) ∙ get_or-append-add uni multi k 0)) good.multi_within) in
+      let first : each_in (set_in n sets) (0 ∷ 1 ∷ 2 ∷ 3 ∷ []) (flat_map set_text (all_sets row) ++ rest) ≡ Ok (uni, tail) =
       ap (each_in (set_in n sets) (0 ∷ 1 ∷ 2 ∷ 3 ∷ [])) text ∙ sets_again n sets (0 ∷ 1 ∷ 2 ∷ 3 ∷ []) uni tail few low in
       let second : each_in (set_in n sets) (4 ∷ 5 ∷ 6 ∷ 7 ∷ []) tail ≡ Ok (multi, rest) = sets_again n sets (4 ∷ 5 ∷ 6 ∷ 7 ∷ []) multi rest few high in
       let after = λ (u : List ℕ) (more : List ℕ). read_on (each_in (set_in n sets) (4 ∷ 5 ∷ 6 ∷ 7 ∷ []) more)
       (λ (m left : List ℕ). let q : Reading Row = Ok (record { uni = u; multi = m }, left) in q) in
       ap (λ (r : Reading (List ℕ)). read_on r after) first
       ∙ ap (λ (r : Reading (List ℕ)). read_on r (λ (m left : List ℕ). let q : Reading Row = Ok (record { uni = uni; multi = m }, left) in q)) second
-
-  pub row_again : (row : Row) (rest : List ℕ) → IsFileRow n row → row_in n (sets_there row) (flat_map set_text (all_sets row) ++ rest) ≡ Ok (row, rest)
-  row_again row rest good =
-      let u = four_of row.uni good.uni_levels in
-      let m = four_of row.multi good.multi_levels in
-      let uni = u.a ∷ u.b ∷ u.c ∷ u.d ∷ [] in
-      let multi = m.a ∷ m.b ∷ m.c ∷ m.d ∷ [] in
-      let spelled : Row = record { uni = uni; multi = multi } in
-      let same : row ≡ spelled = ap (λ (xs : List ℕ). let r : Row = record { uni = xs; multi = row.multi } in r) u.are
-      ∙ ap (λ (xs : List ℕ). let r : Row = record { uni = uni; multi = xs } in r) m.are in
-      let P : Row → Type 0 = λ r. row_in n (sets_there r) (flat_map set_text (all_sets r) ++ rest) ≡ Ok (r, rest) in
-      let Q : List ℕ → Type 0 = λ xs. (k d : ℕ) → k < length xs → get_or xs k d < 2 ^ n in
-      let in_uni : Q uni = subst Q u.are good.uni_within in
-      let in_multi : Q multi = subst Q m.are good.multi_within in
-      subst P (sym same)
-      (eight_again u.a u.b u.c u.d m.a m.b m.c m.d rest (in_uni 0 0 (omega arith)) (in_uni 1 0 (omega arith)) (in_uni 2 0 (omega arith))
-      (in_uni 3 0 (omega arith)) (in_multi 0 0 (omega arith)) (in_multi 1 0 (omega arith)) (in_multi 2 0 (omega arith)) (in_multi 3 0 (omega arith)))
 
   pub post_again : (post : FilePost) (rest : List ℕ) → IsFileRow n post.row → post_in n (post_text post ++ rest) ≡ Ok (post, rest)
   unfolding post_in post_text

@@ -2,10 +2,10 @@
 use Rattle.std.proofs.Common.{◌≡◌, ℕ, ◌+◌, ◌*◌, ◌<◌, ◌≤◌, ◌∙◌, List, [], ◌∷◌, length, map, take, drop, All, Any}
 use Rattle.std.proofs.Common.{Option, refl, sym, ap, subst, arith}
 use Rattle.std.proofs.lemmas.List.Elements.{All-cons, All-head, All-take, All-drop, All-tail}
-use Rattle.rotating_pick.specs.declared.kinds.Kind.{Kind}
 use Rattle.rotating_pick.specs.declared.kinds.Kind.TheVariants.{Uni, Multi}
 use Rattle.rotating_pick.specs.declared.limits.TheConstants.{LEVELS}
 use Rattle.slot_match.specs.declared.matching.Fed.{Fed}
+use Rattle.slot_match.specs.declared.rows.Row.{Row}
 use Rattle.slot_match.specs.Rows.{Names, row_of, HasHead, AreWithin}
 use Rattle.slot_match.specs.Matches.{Serves, Completes}
 use Rattle.slot_match.specs.Keeping.{KeepsRest, Gives}
@@ -96,13 +96,6 @@ module _ (scheduler : Scheduler) (file : JournalFile) where
   file_matches lawful = same_matches scheduler file.ports file.rounds 0 (at_first file.ports) file.slots lawful
 
 module _ (scheduler : Scheduler) (scheduling : IsScheduler scheduler) (file : JournalFile) (good : IsFile file) (lawful : IsLawfulUnder scheduler file) where
-  abbrev slots : List DecidedSlot
-  slots = decided_slots_under scheduler file
-
-  -- some of them
-  abbrev middle : ℕ → ℕ → List DecidedSlot
-  middle first count = take count (drop first slots)
-
   pub file_schedule : (Moves : Moving)
       → IsSchedulerBy Moves scheduler → IsScheduleBy Moves file.ports file.rounds 0 (places_at_first file.ports) (decided_slots_under scheduler file)
   unfolding IsLawfulUnder decided_slots_under at_first
@@ -116,61 +109,80 @@ module _ (scheduler : Scheduler) (scheduling : IsScheduler scheduler) (file : Jo
       are_kept scheduler scheduling file.ports file.rounds 0 (at_first file.ports) file.slots (good_at_first file.ports good.ports_some good.ports_few)
       good.slots lawful
 
-  abbrev all_within : All (λ (slot : DecidedSlot). AreWithin file.ports slot.rows) slots
-  all_within = file_all_within scheduler file good
+-- a file that is lawful under a scheduler, by which pointers move so and keep at ports
+pub record IsLawfulBy (Moves : Moving) (scheduler : Scheduler) (file : JournalFile) : Type 0 where
+  pub scheduling : IsScheduler scheduler
+  pub moving : IsSchedulerBy Moves scheduler
+  pub keep : (level : ℕ) → KeepPointing Moves file.ports level
+  pub good : IsFile file
+  pub lawful : IsLawfulUnder scheduler file
 
-  -- what the rows of some slots name is of a level of the switch
-  first_in : (P : DecidedSlot → Type 0) (first count : ℕ) → All P slots → All P (middle first count)
-  first_in P first count all = All-take P count (drop first slots) (All-drop P first slots all)
+-- so many of its slots, from one of them on
+abbrev pub slots_from : Scheduler → JournalFile → ℕ → ℕ → List DecidedSlot
+slots_from scheduler file first count = take count (drop first (decided_slots_under scheduler file))
 
-  level_named : (level i j : ℕ) (kind : Kind) (part : List DecidedSlot) → i < file.ports
-      → All (λ (slot : DecidedSlot). AreWithin file.ports slot.rows) part → 0 < length part
-      → InFirst (λ rows. Names (row_of rows i) level kind j) part → level < LEVELS
-  level_named level i j kind [] below within some named = absurd (omega arith)
-  level_named level i j kind (slot ∷ part) below within some named =
-      (All-head (λ (slot : DecidedSlot). AreWithin file.ports slot.rows) slot part within).levels i below level j kind named
+-- each unicast queue that is posted in the first of so many clean slots without multicast of its level is served in one of them
+abbrev pub ServesUnicastWithin : ℕ → Scheduler → JournalFile → Type 0
+ServesUnicastWithin most scheduler file = (level first count i j : ℕ) → i < file.ports
+    → All (λ slot. IsClean file.ports level slot.rows) (slots_from scheduler file first count)
+    → All (λ slot. IsWithoutMulticast file.ports level slot.rows) (slots_from scheduler file first count)
+    → InFirst (λ rows. Names (row_of rows i) level Uni j) (slots_from scheduler file first count)
+    → most ≤ length (slots_from scheduler file first count)
+    → Any (λ slot. Serves slot.decision.matched i j level Uni) (slots_from scheduler file first count)
 
-  level_of_head : (level i : ℕ) (part : List DecidedSlot) → i < file.ports → All (λ (slot : DecidedSlot). AreWithin file.ports slot.rows) part
-      → 0 < length part → InFirst (λ rows. HasHead rows level i) part → level < LEVELS
-  level_of_head level i [] below within some head = absurd (omega arith)
-  level_of_head level i (slot ∷ part) below within some head =
-      (All-head (λ (slot : DecidedSlot). AreWithin file.ports slot.rows) slot part within).levels i below level head.0 Multi head.1
+-- it is so in each window of a switch whose pointers move so
+abbrev pub ServeInWindows : ℕ → Moving → ℕ → ℕ → Type 0
+ServeInWindows most Moves n rounds = (t level i j : ℕ) (places : Places) (window : List DecidedSlot) → i < n → IsWindowBy Moves n rounds t level places window
+    → All (λ slot. IsWithoutMulticast n level slot.rows) window → InFirst (λ rows. Names (row_of rows i) level Uni j) window
+    → most ≤ length window → Any (λ slot. Serves slot.decision.matched i j level Uni) window
 
-  -- where its pointers move so, and so keep at ports and pass heads
-  module _ (Moves : Moving) (moving : IsSchedulerBy Moves scheduler) where
-    window : (level first count : ℕ) → KeepPointing Moves file.ports level → level < LEVELS
-        → All (λ slot. IsClean file.ports level slot.rows) (middle first count)
-        → IsWindowBy Moves file.ports file.rounds (0 + first) level (places_after (places_at_first file.ports) (take first slots)) (middle first count)
-    window level first count keep level_in clean =
-        part_is_window_by Moves file.ports file.rounds 0 level first count (places_at_first file.ports) slots keep
-        (pointing_at_first file.ports level good.ports_some good.ports_few level_in) (file_schedule Moves moving) all_within file_kept clean
+-- each multicast head that is posted in the first of so many clean slots completes in one of them
+abbrev pub CompletesMulticast : Scheduler → JournalFile → Type 0
+CompletesMulticast scheduler file = (level first count i : ℕ) → i < file.ports
+    → All (λ slot. IsClean file.ports level slot.rows) (slots_from scheduler file first count)
+    → InFirst (λ rows. HasHead rows level i) (slots_from scheduler file first count)
+    → 2 * file.ports ≤ length (slots_from scheduler file first count)
+    → Any (λ slot. HasHead slot.rows level i × Completes slot.rows slot.decision.matched level i) (slots_from scheduler file first count)
 
-    -- a unicast queue is served within some slots where it is in each window
-    pub unicast_within : (most level first count i j : ℕ) → 0 < most → KeepPointing Moves file.ports level
-        → ((t : ℕ) (places : Places) (window : List DecidedSlot) → IsWindowBy Moves file.ports file.rounds t level places window
-        → All (λ slot. IsWithoutMulticast file.ports level slot.rows) window → InFirst (λ rows. Names (row_of rows i) level Uni j) window
-        → most ≤ length window → Any (λ slot. Serves slot.decision.matched i j level Uni) window)
-        → i < file.ports
-        → All (λ slot. IsClean file.ports level slot.rows) (take count (drop first (decided_slots_under scheduler file)))
-        → All (λ slot. IsWithoutMulticast file.ports level slot.rows) (take count (drop first (decided_slots_under scheduler file)))
-        → InFirst (λ rows. Names (row_of rows i) level Uni j) (take count (drop first (decided_slots_under scheduler file)))
-        → most ≤ length (take count (drop first (decided_slots_under scheduler file)))
-        → Any (λ slot. Serves slot.decision.matched i j level Uni) (take count (drop first (decided_slots_under scheduler file)))
-    unicast_within most level first count i j some keep serves below clean alone named long =
-        let level_in = level_named level i j Uni (middle first count) below
-        (first_in (λ (slot : DecidedSlot). AreWithin file.ports slot.rows) first count all_within) (omega (arith, long)) named in
-        serves (0 + first) (places_after (places_at_first file.ports) (take first slots)) (middle first count) (window level first count keep level_in clean)
-        alone named long
+module _ (Moves : Moving) (scheduler : Scheduler) (file : JournalFile) (by : IsLawfulBy Moves scheduler file) where
+  abbrev all_slots : List DecidedSlot
+  all_slots = decided_slots_under scheduler file
 
-    pub multicast_within : (level first count i : ℕ) → KeepPointing Moves file.ports level → PassHeads Moves file.ports level → i < file.ports
-        → All (λ slot. IsClean file.ports level slot.rows) (take count (drop first (decided_slots_under scheduler file)))
-        → InFirst (λ rows. HasHead rows level i) (take count (drop first (decided_slots_under scheduler file)))
-        → 2 * file.ports ≤ length (take count (drop first (decided_slots_under scheduler file)))
-        → Any (λ slot. HasHead slot.rows level i × Completes slot.rows slot.decision.matched level i)
-        (take count (drop first (decided_slots_under scheduler file)))
-    multicast_within level first count i keep pass below clean head long =
-        let some = good.ports_some in
-        let level_in = level_of_head level i (middle first count) below
-        (first_in (λ (slot : DecidedSlot). AreWithin file.ports slot.rows) first count all_within) (omega (arith, some, long)) head in
-        completes_by Moves file.ports file.rounds (0 + first) level i (places_after (places_at_first file.ports) (take first slots)) (middle first count)
-        keep pass good.rounds_some below (window level first count keep level_in clean) head long
+  abbrev all_within : All (λ (slot : DecidedSlot). AreWithin file.ports slot.rows) all_slots
+  all_within = file_all_within scheduler file by.good
+
+  -- what the rows of the first of some slots have is of a level of the switch
+  level_in : (P : List Row → Type 0) (level first count : ℕ) → ((rows : List Row) → AreWithin file.ports rows → P rows → level < LEVELS)
+      → 0 < length (slots_from scheduler file first count) → InFirst P (slots_from scheduler file first count) → level < LEVELS
+  level_in P level first count is some here =
+      of_first (slots_from scheduler file first count) some here
+      (All-take (λ (slot : DecidedSlot). AreWithin file.ports slot.rows) count (drop first all_slots)
+      (All-drop (λ (slot : DecidedSlot). AreWithin file.ports slot.rows) first all_slots all_within)) where
+        of_first : (part : List DecidedSlot) → 0 < length part → InFirst P part → All (λ (slot : DecidedSlot). AreWithin file.ports slot.rows) part
+            → level < LEVELS
+        of_first [] some here within = absurd (omega arith)
+        of_first (slot ∷ part) some here within =
+            is slot.rows (All-head (λ (slot : DecidedSlot). AreWithin file.ports slot.rows) slot part within) here
+
+  window : (level first count : ℕ) → level < LEVELS → All (λ slot. IsClean file.ports level slot.rows) (slots_from scheduler file first count)
+      → IsWindowBy Moves file.ports file.rounds (0 + first) level (places_after (places_at_first file.ports) (take first all_slots))
+      (slots_from scheduler file first count)
+  window level first count level_in clean =
+      part_is_window_by Moves file.ports file.rounds 0 level first count (places_at_first file.ports) all_slots (by.keep level)
+      (pointing_at_first file.ports level by.good.ports_some by.good.ports_few level_in)
+      (file_schedule scheduler by.scheduling file by.good by.lawful Moves by.moving) all_within (file_kept scheduler by.scheduling file by.good by.lawful) clean
+
+  -- what holds in each window holds of the slots of a file
+  pub unicast_within : (most : ℕ) → 0 < most → ServeInWindows most Moves file.ports file.rounds → ServesUnicastWithin most scheduler file
+  unicast_within most some serves level first count i j below clean alone named long =
+      let of_level = level_in (λ rows. Names (row_of rows i) level Uni j) level first count (λ rows within names. within.levels i below level j Uni names)
+      (omega (arith, long, some)) named in
+      serves (0 + first) level i j _ (slots_from scheduler file first count) below (window level first count of_level clean) alone named long
+
+  pub multicast_within : ((level : ℕ) → PassHeads Moves file.ports level) → CompletesMulticast scheduler file
+  multicast_within pass level first count i below clean head long =
+      let some = by.good.ports_some in
+      let of_level = level_in (λ rows. HasHead rows level i) level first count
+      (λ rows within has. within.levels i below level has.0 Multi has.1) (omega (arith, some, long)) head in
+      completes_by Moves file.ports file.rounds (0 + first) level i _ (slots_from scheduler file first count)
+      (by.keep level) (pass level) by.good.rounds_some below (window level first count of_level clean) head long

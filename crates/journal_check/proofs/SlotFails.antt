@@ -8,7 +8,6 @@ use Rattle.slot_match.specs.Rows.{AreWithin}
 use Rattle.pointer_state.specs.Places.{Places, AreAtPorts}
 use Rattle.eslip_rounds.specs.Slots.{Decision}
 use Rattle.eslip_rounds.specs.Schedulers.{Scheduler}
-use Rattle.scheduler_names.specs.declared.names.SchedulerName.{SchedulerName}
 use Rattle.named_schedulers.specs.Named.{decision_named}
 use Rattle.named_schedulers.proofs.Schedulers.{IsScheduler-named}
 use Rattle.journal_check.specs.declared.slots.SlotRead.{SlotRead}
@@ -19,19 +18,12 @@ use Rattle.journal_check.specs.Lawful.{Before, decided_in, after_slot, post_fail
 use Rattle.journal_check.specs.Steps.{IsSlotRead, before_of}
 use Rattle.journal_check.proofs.LawfulFiles.{no_output_failure}
 
--- the same of slices that are as long and have the same elements
-pub post_again : (n m : ℕ) (judge : Judge) (r : Option Reason) (rows others : List Row) (more also : List Bool) → m ≡ n → others ≡ rows → also ≡ more
-    → r ≡ post_failure m (before_of m judge) others also → r ≡ post_failure n (before_of n judge) rows more
-post_again n m judge r rows others more also len same_rows same_more e =
-    e ∙ ap (λ (k : ℕ). post_failure k (before_of k judge) others also) len ∙ ap (λ (xs : List Row). post_failure n (before_of n judge) xs also) same_rows
-    ∙ ap (post_failure n (before_of n judge) rows) same_more
-
 -- the pointers after a slot are of as many ports
-pub decided_ports : (name : SchedulerName) (n m rounds t : ℕ) (rows : List Row) (places : Places) (decision : Decision) → m ≡ n → AreWithin n rows
-    → AreAtPorts places → places.ports ≡ n → decision ≡ decision_named name m rounds t rows places → decision.places.ports ≡ n
-decided_ports name n m rounds t rows places decision len within at_ports ports same =
-    ap (λ (d : Decision). d.places.ports) same ∙ ap (λ (k : ℕ). (decision_named name k rounds t rows places).places.ports) len
-    ∙ (IsScheduler-named name n rounds t rows places within at_ports ports).moved.1 ∙ ports
+pub decided_ports : (judge : Judge) (n t : ℕ) (rows : List Row) (decision : Decision) → AreWithin n rows → AreAtPorts judge.pointers
+    → judge.pointers.ports ≡ n → decision ≡ decision_named judge.scheduler n judge.rounds t rows judge.pointers → decision.places.ports ≡ n
+decided_ports judge n t rows decision within at_ports ports same =
+    ap (λ (d : Decision). d.places.ports) same
+    ∙ ((IsScheduler-named judge.scheduler n judge.rounds t rows judge.pointers within at_ports ports).moved.1 ∙ ports)
 
 module _ (scheduler : Scheduler) where
   module _ (n rounds t : ℕ) (before : Before) (read : SlotRead) (value : FileSlot) (is : IsSlotRead n read value) where
@@ -72,17 +64,3 @@ module _ (scheduler : Scheduler) where
         ∙ ap (λ (g : Bool). made (rows_of value) value.matched g new.pointers) (going ∙ ap (list_any (λ (more : Bool). more)) is.more)
         ∙ ap (made (rows_of value) value.matched (list_any (λ (more : Bool). more) (mores_of value)))
         (places ∙ ap (λ (r : List Row). (scheduler n rounds t r before.places).places) is.rows)
-
-  -- the same of slices that are as long and have the same elements
-  pub output_again : (n m rounds t : ℕ) (places : Places) (r : Option Reason) (rows others : List Row) (fed also decided : List (Option Fed)) → m ≡ n
-      → others ≡ rows → also ≡ fed → r ≡ output_failure m also decided → decided ≡ (scheduler m rounds t others places).matched
-      → r ≡ output_failure n fed (scheduler n rounds t rows places).matched
-  output_again n m rounds t places r rows others fed also decided len same_rows same_fed e is =
-      e ∙ ap (λ (k : ℕ). output_failure k also decided) len ∙ ap (λ (xs : List (Option Fed)). output_failure n xs decided) same_fed
-      ∙ ap (output_failure n fed) (is ∙ ap (λ (k : ℕ). (scheduler k rounds t others places).matched) len
-      ∙ ap (λ (xs : List Row). (scheduler n rounds t xs places).matched) same_rows)
-
-  pub places_again : (n m rounds t : ℕ) (places after : Places) (rows others : List Row) → m ≡ n → others ≡ rows
-      → after ≡ (scheduler m rounds t others places).places → after ≡ (scheduler n rounds t rows places).places
-  places_again n m rounds t places after rows others len same_rows is = is ∙ ap (λ (k : ℕ). (scheduler k rounds t others places).places) len
-      ∙ ap (λ (xs : List Row). (scheduler n rounds t xs places).places) same_rows

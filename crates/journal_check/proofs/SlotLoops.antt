@@ -8,6 +8,7 @@ use Rattle.std.proofs.Math.ListN.{length-set}
 use Rattle.slot_match.specs.declared.rows.Row.{Row}
 use Rattle.slot_match.specs.declared.matching.Fed.{Fed}
 use Rattle.journal_check.specs.declared.fields.BadField.{BadField}
+use Rattle.journal_check.specs.declared.slots.SlotRead.{SlotRead}
 use Rattle.journal_check.specs.declared.posts.FilePost.{FilePost}
 use Rattle.journal_check.specs.Fields.{each_in}
 use Rattle.journal_check.specs.Files.{FileSlot, post_in, output_in, slot_in}
@@ -49,8 +50,7 @@ module _ (n : ℕ) (bytes : List ℕ) (at : ℕ) where
     long = length-set fed i output ∙ so_far.long;
     within = here.within;
     whole =
-        step_ok (λ k. output_in n) (each_in (λ k. output_in n) (range_with_len 0 n) (drop at bytes)) (take i fed) i n (drop next bytes)
-        (drop to bytes) output below so_far.whole here.reads
+        so_far.whole ∙ step_ok (λ k. output_in n) (take i fed) i n (drop next bytes) (drop to bytes) output below here.reads
         ∙ ap (λ (xs : List (Option Fed)). with_front xs (left_in (λ k. output_in n) (i + 1) n (drop to bytes)))
         (sym (ap (λ (k : ℕ). take k (set fed i output)) (add-one i) ∙ take-suc-set fed i output (let long = so_far.long in omega arith)));
   }
@@ -59,7 +59,7 @@ module _ (n : ℕ) (bytes : List ℕ) (at : ℕ) where
       → IsRead (each_in (λ k. output_in n) (range_with_len 0 n)) bytes at (take n fed) next
   outputs_end next fed so_far = record {
     within = so_far.within;
-    reads = step_end (λ k. output_in n) (each_in (λ k. output_in n) (range_with_len 0 n) (drop at bytes)) (take n fed) n (drop next bytes) so_far.whole;
+    reads = so_far.whole ∙ step_end (λ k. output_in n) (take n fed) n (drop next bytes);
   }
 
 module _ (n : ℕ) (bytes : List ℕ) (at : ℕ) where
@@ -74,46 +74,36 @@ module _ (n : ℕ) (bytes : List ℕ) (at : ℕ) where
     more_are = refl;
   }
 
-  pub posts_go_on : (i next to : ℕ) (rows : List Row) (more : List Bool) (post : FilePost) → i < n → n ≤ 64 → ArePostsRead n bytes at i next rows more
-      → IsRead (post_in n) bytes next post to → ArePostsRead n bytes at (i + 1) to (set rows i post.row) (set more i post.more)
-  posts_go_on i next to rows more post below few so_far here = record {
-    long_rows = length-set rows i post.row ∙ so_far.long_rows;
-    long_more = length-set more i post.more ∙ so_far.long_more;
-    posts = so_far.posts ++ post ∷ [];
-    within = here.within;
-    whole = step_ok (λ k. post_in n) (each_in (λ k. post_in n) (range_with_len 0 n) (drop at bytes)) so_far.posts i n (drop next bytes)
-        (drop to bytes) post below so_far.whole here.reads;
-    rows_are = placed (λ (p : FilePost). p.row) rows i so_far.posts post (let long = so_far.long_rows in omega arith) so_far.rows_are;
-    more_are = placed (λ (p : FilePost). p.more) more i so_far.posts post (let long = so_far.long_more in omega arith) so_far.more_are;
-  }
-
   pub posts_fail : (i next bad : ℕ) (rows : List Row) (more : List Bool) → i < n → ArePostsRead n bytes at i next rows more
       → IsBadAt (post_in n) bytes next bad → IsBadAt (each_in (λ k. post_in n) (range_with_len 0 n)) bytes at bad
   posts_fail i next bad rows more below so_far here = record {
     within = here.within;
-    fails = step_err (λ k. post_in n) (each_in (λ k. post_in n) (range_with_len 0 n) (drop at bytes)) so_far.posts i n (drop next bytes)
-        (drop bad bytes) below so_far.whole here.fails;
+    fails = so_far.whole ∙ step_err (λ k. post_in n) so_far.posts i n (drop next bytes) (drop bad bytes) below here.fails;
   }
 
   pub posts_end : (next : ℕ) (rows : List Row) (more : List Bool) → (so_far : ArePostsRead n bytes at n next rows more)
       → IsRead (each_in (λ k. post_in n) (range_with_len 0 n)) bytes at so_far.posts next
   posts_end next rows more so_far = record {
     within = so_far.within;
-    reads = step_end (λ k. post_in n) (each_in (λ k. post_in n) (range_with_len 0 n) (drop at bytes)) so_far.posts n (drop next bytes) so_far.whole;
+    reads = so_far.whole ∙ step_end (λ k. post_in n) so_far.posts n (drop next bytes);
   }
 
+-- these posts are read from place `at` on up to place `mid`, and stand in the first n places
+pub record AreInPlaces (n : ℕ) (bytes : List ℕ) (at mid : ℕ) (read : SlotRead) : Type 0 where
+  pub posts : List FilePost
+  pub reads : IsRead (each_in (λ k. post_in n) (range_with_len 0 n)) bytes at posts mid
+  pub rows : take n read.rows ≡ map (λ post. post.row) posts
+  pub more : take n read.more ≡ map (λ post. post.more) posts
+
 -- a slot is read where its posts and its outputs are
-pub slot_outcome : (n : ℕ) (bytes : List ℕ) (at mid : ℕ) (posts : List FilePost) (rows : List Row) (more : List Bool) (fed : List (Option Fed))
-    (r : Result ℕ BadField) → IsRead (each_in (λ k. post_in n) (range_with_len 0 n)) bytes at posts mid
-    → take n rows ≡ map (λ post. post.row) posts → take n more ≡ map (λ post. post.more) posts
-    → MatchResult r (λ next. IsRead (each_in (λ k. output_in n) (range_with_len 0 n)) bytes mid (take n fed) next)
+pub slot_outcome : (n : ℕ) (bytes : List ℕ) (at mid : ℕ) (read : SlotRead) (r : Result ℕ BadField) → AreInPlaces n bytes at mid read
+    → MatchResult r (λ next. IsRead (each_in (λ k. output_in n) (range_with_len 0 n)) bytes mid (take n read.fed) next)
     (λ bad. IsBadAt (each_in (λ k. output_in n) (range_with_len 0 n)) bytes mid bad.at)
-    → MatchResult r (λ next. (x : FileSlot) × IsRead (slot_in n) bytes at x next × IsSlotRead n (record { rows = rows; more = more; fed = fed }) x)
-    (λ bad. IsBadAt (slot_in n) bytes at bad.at)
+    → MatchResult r (λ next. (x : FileSlot) × IsRead (slot_in n) bytes at x next × IsSlotRead n read x) (λ bad. IsBadAt (slot_in n) bytes at bad.at)
 unfolding slot_in
-slot_outcome n bytes at mid posts rows more fed (Ok next) read rows_are more_are h = (
-  record { posts = posts; matched = take n fed },
-  record { within = h.within; reads = rw read.reads (rw h.reads refl) },
-  record { rows = rows_are; more = more_are; outputs = refl },
+slot_outcome n bytes at mid read (Ok next) posts h = (
+  record { posts = posts.posts; matched = take n read.fed },
+  record { within = h.within; reads = rw posts.reads.reads (rw h.reads refl) },
+  record { rows = posts.rows; more = posts.more; outputs = refl },
 )
-slot_outcome n bytes at mid posts rows more fed (Err bad) read rows_are more_are h = record { within = h.within; fails = rw read.reads (rw h.fails refl) }
+slot_outcome n bytes at mid read (Err bad) posts h = record { within = h.within; fails = rw posts.reads.reads (rw h.fails refl) }

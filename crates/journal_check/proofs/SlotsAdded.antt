@@ -51,14 +51,19 @@ at_header ports rounds bytes header = record {
   bytes = λ few. header ∙ sym (append-nil (header_text ports rounds 0));
 }
 
--- a writer of the file and a slot more, which has counted it, and keeps its bytes where they are not too many
-pub slot_put : (file : JournalFile) (old new : WriterValue) (posts : List CardPost) (matched : List (Option Fed)) (posts_len outputs_len : ℕ)
-    → IsWriting file old → new.ports ≡ old.ports → new.rounds ≡ old.rounds → new.slots ≡ old.slots + 1 → new.len ≡ old.len + (posts_len + outputs_len)
-    → posts_len ≡ length (flat_map (λ (post : CardPost). post_text (file_post post)) posts) → outputs_len ≡ length (flat_map output_text matched)
-    → (new.len ≤ MAX_JOURNAL_BYTES
-    → new.bytes ≡ (old.bytes ++ flat_map (λ (post : CardPost). post_text (file_post post)) posts) ++ flat_map output_text matched)
-    → IsWriting (with_slot file (slot_by posts matched)) new
-slot_put file old new posts matched posts_len outputs_len was ports rounds slots len posts_are outputs_are kept =
+-- A writer has counted a slot more, of these posts and this match, and keeps its bytes where they are not too many.
+pub record HasPut (old new : WriterValue) (posts : List CardPost) (matched : List (Option Fed)) : Type 0 where
+  pub ports : new.ports ≡ old.ports
+  pub rounds : new.rounds ≡ old.rounds
+  pub slots : new.slots ≡ old.slots + 1
+  pub len : new.len ≡ old.len + (length (flat_map (λ (post : CardPost). post_text (file_post post)) posts) + length (flat_map output_text matched))
+  pub kept : new.len ≤ MAX_JOURNAL_BYTES
+      → new.bytes ≡ (old.bytes ++ flat_map (λ (post : CardPost). post_text (file_post post)) posts) ++ flat_map output_text matched
+
+-- it is a writer of the file and that slot
+pub slot_put : (file : JournalFile) (old new : WriterValue) (posts : List CardPost) (matched : List (Option Fed)) → IsWriting file old
+    → HasPut old new posts matched → IsWriting (with_slot file (slot_by posts matched)) new
+slot_put file old new posts matched was put =
     let slot = slot_by posts matched in
     let first = flat_map (λ (post : CardPost). post_text (file_post post)) posts in
     let second = flat_map output_text matched in
@@ -66,27 +71,29 @@ slot_put file old new posts matched posts_len outputs_len was ports rounds slots
     let slot_len : length (slot_text slot) ≡ length first + length second = ap length (slot_is posts matched) ∙ length-append first second in
     let whole = file_longer file slot in
     let so_far = was.len in
+    let len = put.len in
     record {
-      ports = ports ∙ was.ports;
-      rounds = rounds ∙ was.rounds;
-      slots = let count = was.slots in let more = length-append file.slots (slot ∷ []) in omega arith;
+      ports = put.ports ∙ was.ports;
+      rounds = put.rounds ∙ was.rounds;
+      slots = let count = was.slots in let slots = put.slots in let more = length-append file.slots (slot ∷ []) in omega arith;
       len = omega arith;
       bytes = λ few.
           let few_before : old.len ≤ MAX_JOURNAL_BYTES = omega arith in
-          kept few ∙ ap (λ (t : List ℕ). (t ++ first) ++ second) (was.bytes few_before) ∙ append_assoc (header ++ flat_map slot_text file.slots) first second
+          put.kept few ∙ ap (λ (t : List ℕ). (t ++ first) ++ second) (was.bytes few_before)
+          ∙ append_assoc (header ++ flat_map slot_text file.slots) first second
           ∙ append_assoc header (flat_map slot_text file.slots) (first ++ second)
           ∙ ap (λ (t : List ℕ). header ++ (flat_map slot_text file.slots ++ t)) (sym (slot_is posts matched))
           ∙ ap (λ (t : List ℕ). header ++ t) (sym (slots_more file.slots slot));
     }
 
 -- with the number of its slots they are its text
-pub slots_set : (file : JournalFile) (writer : WriterValue) (bytes text : List ℕ) (slots : ℕ) → IsWriting file writer
-    → length (file_text file) ≤ MAX_JOURNAL_BYTES → bytes ≡ writer.bytes → slots ≡ writer.slots
-    → ((ports rounds before : ℕ) (rest : List ℕ) → bytes ≡ header_text ports rounds before ++ rest → text ≡ header_text ports rounds slots ++ rest)
+pub slots_set : (file : JournalFile) (writer : WriterValue) (text : List ℕ) → IsWriting file writer → length (file_text file) ≤ MAX_JOURNAL_BYTES
+    → ((ports rounds before : ℕ) (rest : List ℕ) → writer.bytes ≡ header_text ports rounds before ++ rest
+    → text ≡ header_text ports rounds writer.slots ++ rest)
     → text ≡ file_text file
 unfolding file_text
-slots_set file writer bytes text slots is few bytes_are slots_are set =
+slots_set file writer text is few set =
     let len = is.len in
     let at_most : writer.len ≤ MAX_JOURNAL_BYTES = omega arith in
-    set file.ports file.rounds 0 (flat_map slot_text file.slots) (bytes_are ∙ is.bytes at_most)
-    ∙ ap (λ (k : ℕ). header_text file.ports file.rounds k ++ flat_map slot_text file.slots) (slots_are ∙ is.slots)
+    set file.ports file.rounds 0 (flat_map slot_text file.slots) (is.bytes at_most)
+    ∙ ap (λ (k : ℕ). header_text file.ports file.rounds k ++ flat_map slot_text file.slots) is.slots

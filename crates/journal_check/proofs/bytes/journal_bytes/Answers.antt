@@ -12,14 +12,10 @@ put_header-requires-clause-rounds c = omega (arith, c.rounds.ensures, c.legal.en
 pub loop-slot-preserved : goal.loop-slot-preserved
 loop-slot-preserved c =
     let journal = c.args.journal.now in
-    slots_grown journal.slots c.loop-slot.slot c.posts.result.now c.decided.result.now
-    (header_text journal.setup.ports journal.setup.rounds
-    (length journal.slots)) c.loop-slot.text.items c.put_posts.new.text.items c.put_outputs.new.text.items
-    (omega (
-      arith,
-      c.loop-slot-test.true,
-      c.slots-slot-end.ensures,
-    )) c.posts.ensures.posts c.decided.ensures.matched c.loop-slot.invariant c.in_ok-put_posts.ensures c.in_ok-put_outputs.ensures
+    let posts = rw c.posts.ensures.posts at c.in_ok-put_posts.ensures in
+    let outputs = rw c.decided.ensures.matched at c.in_ok-put_outputs.ensures in
+    slots_grown journal.slots c.loop-slot.slot (header_text journal.setup.ports journal.setup.rounds (length journal.slots)) c.loop-slot.text.items
+    c.put_outputs.new.text.items (omega (arith, c.loop-slot-test.true, c.slots-slot-end.ensures)) c.loop-slot.invariant (rw posts at outputs)
 
 pub returns : goal.returns
 returns c = file_spelled c.args.journal.now c.loop-slot.slot c.loop-slot.text.items

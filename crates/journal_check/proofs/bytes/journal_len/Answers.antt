@@ -1,23 +1,31 @@
-use Rattle.std.proofs.Common.{arith}
-use Rattle.journal_check.proofs.Written.{slots_longer, file_long, slots_levels_more, levels_of}
+use Rattle.std.proofs.Common.{◌<◌, All, length, arith}
+use Rattle.crossbar.specs.declared.cards.Post.{Post as CardPost}
+use Rattle.slot_histories.specs.Answers.{JournalSlot}
+use Rattle.board_state.specs.Boards.{no_slot}
+use Rattle.journal_check.specs.Texts.{HasLevels}
+use Rattle.journal_check.proofs.Written.{first_more, slots_longer, file_long, levels_of}
 use Rattle.journal_check.proofs.bytes.journal_len.Goals as goal
 
 pub loop-slot-preserved : goal.loop-slot-preserved
 loop-slot-preserved c =
     let inv = c.loop-slot.invariant in
     let slots = c.args.journal.now.slots in
-    let p = slots_longer slots c.loop-slot.slot c.loop-slot.len c.posts_len.result c.outputs_len.result c.posts.result.now c.decided.result.now
-    (omega (arith, c.loop-slot-test.true, c.slots-slot-end.ensures)) c.posts.ensures.posts c.decided.ensures.matched
-    (omega (
-      arith,
-      c.posts.ensures.ports,
-      c.legal.ensures.setup.ports_few,
-    )) c.posts_len.ensures.value c.posts_len.ensures.few c.outputs_len.ensures.value c.outputs_len.ensures.few
-    (inv.0, inv.1) in (
-      p.0,
-      p.1,
-      slots_levels_more slots c.loop-slot.slot c.posts.result.now
-          (omega (arith, c.loop-slot-test.true, c.slots-slot-end.ensures)) c.posts.ensures.posts c.posts_len.ensures.levels inv.2,
+    let i = c.loop-slot.slot in
+    let below : i < length slots = omega (arith, c.loop-slot-test.true, c.slots-slot-end.ensures) in
+    let longer = slots_longer slots i c.loop-slot.len below inv.0 in
+    let posts = rw c.posts.ensures.posts at c.posts_len.ensures.value in
+    let outputs = rw c.decided.ensures.matched at c.outputs_len.ensures.value in (
+      omega (arith, longer, posts, outputs),
+      omega (
+        arith,
+        inv.1,
+        c.posts.ensures.ports,
+        c.legal.ensures.setup.ports_few,
+        c.posts_len.ensures.few,
+        c.outputs_len.ensures.few,
+      ),
+      first_more (λ (slot : JournalSlot). All (λ (post : CardPost). HasLevels post.row) slot.posts) slots i no_slot below
+          (rw c.posts.ensures.posts at c.posts_len.ensures.levels) inv.2,
     )
 
 pub returns-clause-value : goal.returns-clause-value

@@ -1,9 +1,9 @@
-use Rattle.std.proofs.Common.{None, false, get_or, refl, arith}
+use Rattle.std.proofs.Common.{None, false, get_or, arith}
 use Rattle.std.proofs.lemmas.List.{get_or_default}
 use Rattle.slot_match.specs.Rows.{no_row}
 use Rattle.crossbar.specs.declared.cards.Post.{Post as CardPost}
-use Rattle.journal_check.specs.Texts.{post_text, file_post}
-use Rattle.journal_check.proofs.Written.{longer, levels_more}
+use Rattle.journal_check.specs.Texts.{HasLevels, post_text, file_post}
+use Rattle.journal_check.proofs.Written.{first_more, longer}
 use Rattle.journal_check.proofs.bytes.posts_len.Goals as goal
 
 pub loop-post-preserved : goal.loop-post-preserved
@@ -19,4 +19,4 @@ loop-post-preserved c =
     let so_far = inv.0 in
     let bound = inv.1 in
     let more = longer (λ (p : CardPost). post_text (file_post p)) posts i post 0 c.loop-post.len below (get_or_default posts i none post below) (omega arith) in
-    (omega arith, omega arith, levels_more posts i post none below refl c.post_len-len.ensures.levels inv.2)
+    (omega arith, omega arith, first_more (λ (p : CardPost). HasLevels p.row) posts i none below c.post_len-len.ensures.levels inv.2)

@@ -1,14 +1,37 @@
-use Rattle.std.proofs.Common.{◌≡◌, ℕ, subst, arith}
+use Rattle.std.proofs.Common.{◌≡◌, ◌∙◌, ◌++◌, ◌∷◌, [], ℕ, drop, subst, arith}
+use Rattle.std.proofs.Math.ListN.{length-set}
 use Rattle.std.proofs.lemmas.Result.{err_from_is_err_and}
-use Rattle.journal_check.proofs.SlotLoops.{ArePostsRead, posts_begin, posts_go_on, posts_fail, posts_end}
+use Rattle.journal_check.specs.declared.posts.FilePost.{FilePost}
+use Rattle.journal_check.specs.Files.{post_in}
+use Rattle.journal_check.proofs.Loops.{step_ok}
+use Rattle.journal_check.proofs.SlotLoops.{ArePostsRead, placed, posts_begin, posts_fail, posts_end}
 use Rattle.journal_check.proofs.slots.read_posts.Goals as goal
 
 pub loop-i-init : goal.loop-i-init
 loop-i-init c = posts_begin c.args.ports c.args.bytes.now c.args.at c.args.rows.now c.args.more.now c.requires.place c.told-rows c.told-more
 
 pub loop-i-preserved : goal.loop-i-preserved
-loop-i-preserved c = posts_go_on c.args.ports c.args.bytes.now c.args.at c.loop-i.i c.loop-i.next c.in_ok-post.post.next c.loop-i.rows c.loop-i.more
-    c.in_ok-post.post.value c.loop-i-test.true c.requires.few c.loop-i.invariant c.in_ok-post.ensures
+loop-i-preserved c =
+    let n = c.args.ports in
+    let i = c.loop-i.i in
+    let bytes = c.args.bytes.now in
+    let post = c.in_ok-post.post.value in
+    let next = c.in_ok-post.post.next in
+    let so_far = c.loop-i.invariant in
+    let long = so_far.long_rows in
+    let also = so_far.long_more in
+    let below = c.loop-i-test.true in
+    let few = c.requires.few in
+    record {
+      long_rows = length-set c.loop-i.rows i post.row ∙ long;
+      long_more = length-set c.loop-i.more i post.more ∙ also;
+      posts = so_far.posts ++ post ∷ [];
+      within = c.in_ok-post.ensures.within;
+      whole = so_far.whole
+          ∙ step_ok (λ k. post_in n) so_far.posts i n (drop c.loop-i.next bytes) (drop next bytes) post below c.in_ok-post.ensures.reads;
+      rows_are = placed (λ (p : FilePost). p.row) c.loop-i.rows i so_far.posts post (omega arith) so_far.rows_are;
+      more_are = placed (λ (p : FilePost). p.more) c.loop-i.more i so_far.posts post (omega arith) so_far.more_are;
+    }
 
 pub returns-in_err-post : goal.returns-in_err-post
 returns-in_err-post c =

@@ -1,4 +1,4 @@
-use Rattle.std.proofs.Common.{◌≡◌, ◌∙◌, ◌++◌, ◌∷◌, [], ℕ, None, length, take, refl, sym, subst}
+use Rattle.std.proofs.Common.{◌≡◌, ◌∙◌, ◌++◌, ◌∷◌, [], ℕ, None, length, sym, subst}
 use Rattle.std.proofs.option.Match.{None-if_not_some}
 use Rattle.named_schedulers.specs.Named.{decision_named}
 use Rattle.service_bound.specs.Waits.{NotedSlot}
@@ -13,8 +13,6 @@ returns-in-None-clause-judged c slots value count is judged =
     let n = c.args.ports in
     let old = c.args.self.now in
     let mid = c.slot_failure.new.self in
-    let rows = c.args.slot.now.rows in
-    let same_rows : take n rows ≡ take n rows = refl in
     let was : old.failure ≡ None = None-if_not_some old.failure (sym c.is_some.ensures ∙ c.if-is_some.false) in
     let stays = c.in-None.ensures.stays in
     let why : None ≡ failure_in (decision_named old.scheduler) n old.rounds (length slots) (before_of n old) value =
@@ -25,6 +23,5 @@ returns-in-None-clause-judged c slots value count is judged =
     passed (decision_named old.scheduler) n old.rounds slots value old (record mid { meter = c.note.new.self }) judged was (stays.3 ∙ was) (sym why) next_at
     (λ noted h.
     subst (λ (slot : NotedSlot). HasNoted c.note.new.self (noted ++ slot ∷ []))
-    (noted_same (decision_named old.scheduler) n old.rounds c.args.t c.args.slot.now value (before_of n old) mid (take n rows) mid.matched is same_rows
-    refl next)
+    (noted_same n c.args.t c.args.slot.now value old mid is next)
     (c.note.ensures.noted noted (subst (λ m. HasNoted m noted) (sym stays.2) h)))

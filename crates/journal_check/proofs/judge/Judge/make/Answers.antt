@@ -1,12 +1,13 @@
-use Rattle.std.proofs.Common.{refl, arith}
+use Rattle.std.proofs.Common.{take, ap, refl, arith}
 use Rattle.named_schedulers.specs.Named.{decision_named}
-use Rattle.journal_check.proofs.Judged.{begin_judged, first_rows_within}
+use Rattle.journal_check.proofs.Judged.{before_first, begin_judged, first_rows_within}
 use Rattle.journal_check.proofs.judge.Judge.make.Goals as goal
 
 pub returns-clause-judged : goal.returns-clause-judged
 returns-clause-judged c =
-    begin_judged (decision_named c.args.scheduler) c.args.ports c.args.rounds _ c.requires.ports_few c.no_rows-rows.ensures c.new.ensures.value refl
-    c.new-2.ensures.value refl c.in_ok-make.ensures.1
+    begin_judged (decision_named c.args.scheduler) c.args.ports c.args.rounds _
+    (before_first c.args.ports _ c.requires.ports_few (ap (take c.args.ports) c.no_rows-rows.ensures) c.new.ensures.value refl c.new-2.ensures.value)
+    refl c.in_ok-make.ensures.1
 
 pub returns-clause-ready : goal.returns-clause-ready
 returns-clause-ready c = record {

@@ -16,8 +16,8 @@ returns-in_err-output-clause-ready c =
       rounds_are = ready.rounds_are;
       rows = ready.rows;
       matched = c.decide-numbers.ensures.decided.whole.count ∙ ports;
-      pointers = decided_ports judge.scheduler (length rows) c.ports-ports.result judge.rounds c.args.t rows judge.pointers _ ports c.requires.within
-          c.ports-ports.ensures.at_ports ready.pointers c.decide-numbers.ensures.decided.decision;
+      pointers = decided_ports judge (length rows) c.args.t rows _ c.requires.within c.ports-ports.ensures.at_ports ready.pointers
+          (rw ports at c.decide-numbers.ensures.decided.decision);
       meter = ready.meter;
       count = ready.count;
     }
@@ -36,8 +36,8 @@ returns-clause-ready c =
       rounds_are = ready.rounds_are;
       rows = ready.rows;
       matched = c.decide-numbers.ensures.decided.whole.count ∙ ports;
-      pointers = decided_ports judge.scheduler (length rows) c.ports-ports.result judge.rounds c.args.t rows judge.pointers _ ports c.requires.within
-          c.ports-ports.ensures.at_ports ready.pointers c.decide-numbers.ensures.decided.decision;
+      pointers = decided_ports judge (length rows) c.args.t rows _ c.requires.within c.ports-ports.ensures.at_ports ready.pointers
+          (rw ports at c.decide-numbers.ensures.decided.decision);
       meter = ready.meter;
       count = ready.count;
     }

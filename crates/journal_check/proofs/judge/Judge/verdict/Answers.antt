@@ -1,3 +1,4 @@
+use Rattle.std.proofs.Common.{refl}
 use Rattle.journal_check.proofs.Judged.{no_verdict, yes_verdict}
 use Rattle.journal_check.proofs.judge.Judge.verdict.Goals as goal
 
@@ -7,6 +8,11 @@ returns-in-Some c scheduler file count ports judged =
 
 pub returns-in-None : goal.returns-in-None
 returns-in-None c scheduler file count ports judged =
-    yes_verdict scheduler file c.args.self.now c.args.slots c.longest.result c.longest-in-None.result c.longest-in-None-2.result c.longest-in-None-3.result
-    count ports judged (c.in-None.ensures scheduler file.ports file.rounds)
-    c.longest.ensures c.longest-in-None.ensures c.longest-in-None-2.ensures c.longest-in-None-3.ensures
+    yes_verdict scheduler file c.args.self.now c.args.slots _ count judged (c.in-None.ensures scheduler file.ports file.rounds)
+    (λ noted has. rw (
+      ← ports,
+      c.longest.ensures noted has,
+      c.longest-in-None.ensures noted has,
+      c.longest-in-None-2.ensures noted has,
+      c.longest-in-None-3.ensures noted has,
+    ) refl)
