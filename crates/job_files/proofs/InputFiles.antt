@@ -41,15 +41,15 @@ there_more names (Some c) i captures bytes within there here =
     ∙ sym (map_push (λ b. Some b) captures bytes)
 
 -- one capture more is read
-pub captures_more : (long : Bool) (names : List (List ℕ)) (seen : Option Contents) (i : ℕ) (captures : List (List ℕ)) (bytes : List ℕ) → i < length names
-    → CapturesRead long (take i names) seen captures
-    → IfSome seen (λ c. c.file (get_or names i []) ≡ Some bytes) → length bytes ≤ capture_bytes long
-    → CapturesRead long (take (i + 1) names) seen (captures ++ bytes ∷ [])
-captures_more long names seen i captures bytes within read here fits = record {
+pub captures_more : (r : ReadWords) (seen : Option Contents) (i : ℕ) (captures : List (List ℕ)) (bytes : List ℕ) → i < length r.inputs
+    → CapturesRead r.long (take i r.inputs) seen captures
+    → IfSome seen (λ c. c.file (get_or r.inputs i []) ≡ Some bytes) → length bytes ≤ capture_bytes r.long
+    → CapturesRead r.long (take (i + 1) r.inputs) seen (captures ++ bytes ∷ [])
+captures_more r seen i captures bytes within read here fits = record {
   count = length_push captures bytes ∙ ap (λ n. n + 1) read.count
-      ∙ sym (ap length (take_more names i [] within) ∙ length_push (take i names) (get_or names i []));
-  fit = All-push (λ b. length b ≤ capture_bytes long) captures bytes read.fit fits;
-  there = there_more names seen i captures bytes within read.there here;
+      ∙ sym (ap length (take_more r.inputs i [] within) ∙ length_push (take i r.inputs) (get_or r.inputs i []));
+  fit = All-push (λ b. length b ≤ capture_bytes r.long) captures bytes read.fit fits;
+  there = there_more r.inputs seen i captures bytes within read.there here;
 }
 
 -- what a push left, where it was not refused

@@ -3,8 +3,8 @@ use Rattle.std.proofs.Common.{◌≡◌, ◌≤◌, ℕ, List, Option, None, Som
 use Rattle.std.specs.Prelude.{Result, IfSome, option_map}
 use Rattle.eslip_rounds.specs.Schedulers.{Scheduler}
 use Rattle.outside.specs.Contents.{Contents, Stays, append_out, held}
-use Rattle.outside.specs.Faults.{Place, ReadOf, ToOut, NeverFall}
-use Rattle.outside.proofs.Counting.{NeverFall-Rose}
+use Rattle.outside.specs.Faults.{Place, ReadOf, ToOut}
+use Rattle.outside.proofs.Counting.{CallsAmong, Rose-wider}
 use Rattle.outside.proofs.Staying.{held-Stays}
 use Rattle.journal_check.specs.declared.limits.TheConstants.{MAX_JOURNAL_BYTES}
 use Rattle.journal_check.specs.declared.verdict.Verdict.{Verdict}
@@ -20,16 +20,17 @@ pub is_answered : (scheduler : Scheduler) (name bytes : List ℕ) (answer : Resu
     → IsAnswered scheduler name old answer
 is_answered scheduler name bytes answer old there fits is = record { bytes = bytes; fits = fits; answered = is; known = there }
 
-module _ (scheduler : Scheduler) (name : List ℕ) (old : Option Contents) (was then now : Place → ℕ) (kept : NeverFall was then) where
-  pub later_check : (ending : CheckEnding) (new : Option Contents) → MeansCheck scheduler name old new then now ending
-      → MeansCheck scheduler name old new was now ending
-  later_check Yes new means = means
-  later_check (No slot reason) new means = means
-  later_check (Bad at) new means = means
-  later_check TooLong new means = means
-  later_check ReadFault new means = (NeverFall-Rose was then now (ReadOf name) kept means.0, means.1)
-  later_check OutOfMemory new means = means
-  later_check OutFault new (text, given, lawful, rose, left) = (text, given, lawful, NeverFall-Rose was then now ToOut kept rose, left)
+-- how a check ended in some of the calls is how it ended in all of them
+pub check_wider : (scheduler : Scheduler) (name : List ℕ) (old new : Option Contents) (was now : Place → ℕ) (some : CallsAmong was now) (ending : CheckEnding)
+    → MeansCheck scheduler name old new some.from some.to ending → MeansCheck scheduler name old new was now ending
+check_wider scheduler name old new was now some Yes means = means
+check_wider scheduler name old new was now some (No slot reason) means = means
+check_wider scheduler name old new was now some (Bad at) means = means
+check_wider scheduler name old new was now some TooLong means = means
+check_wider scheduler name old new was now some ReadFault (rose, same) = (Rose-wider was now some (ReadOf name) rose, same)
+check_wider scheduler name old new was now some OutOfMemory means = means
+check_wider scheduler name old new was now some OutFault (text, given, lawful, rose, left) =
+    (text, given, lawful, Rose-wider was now some ToOut rose, left)
 
 -- A check after calls by which what was seen before is seen still
 

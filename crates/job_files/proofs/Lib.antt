@@ -6,4 +6,4 @@ pub mod Putting
 pub mod Holding
 pub mod MadeSizes
 pub mod RefusedCalls
-mod Later
+pub mod Later

@@ -1,15 +1,15 @@
 -- Texts that are given to standard error in parts.
-use Rattle.std.proofs.Common.{◌≡◌, ◌+◌, ◌<◌, ◌≤◌, ℕ, List, [], ◌∷◌, ◌++◌, map, take, drop, get_or, length, inr, Option, Some, None, refl, sym, ◌∙◌, ap}
+use Rattle.std.proofs.Common.{◌≡◌, ◌+◌, ◌<◌, ℕ, List, [], ◌∷◌, ◌++◌, map, take, drop, get_or, length, inr, Option, Some, None, refl, sym, ◌∙◌, ap}
 use Rattle.std.proofs.Common.{append_assoc}
-use Rattle.std.specs.Prelude.{Result, Ok, Err, is_err, true, false, option_map, OnErr}
+use Rattle.std.specs.Prelude.{Result, Ok, Err, is_err, true, false, option_map}
 use Rattle.std.specs.List.{concat}
 use Rattle.std.proofs.lemmas.List.{append-nil, drop_more, map-append, map_more, take-append-drop}
 use Rattle.std.proofs.lemmas.List.Folds.{concat-append}
 use Rattle.outside.specs.Contents.{Contents, append_err}
 use Rattle.outside.specs.Faults.{Rose}
-use Rattle.outside.proofs.Counting.{le-Rose}
 use Rattle.outside.proofs.Effects.{append_err-append_err}
-use Rattle.job_files.specs.LineParts.{Gives, GivesLine}
+use Rattle.job_files.specs.LineParts.{Gives, GivesLine, part_text}
+use Rattle.job_files.specs.declared.error_lines.Part.{Part}
 
 pub err_after : (a b : List ℕ) (o : Option Contents) → option_map (append_err b) (option_map (append_err a) o) ≡ option_map (append_err (a ++ b)) o
 err_after a b None = refl
@@ -31,32 +31,42 @@ concat_split text parts i d within =
     ∙ concat-append (map text (take i parts)) (map text (drop i parts))
     ∙ ap (λ xs. concat (map text (take i parts)) ++ concat (map text xs)) (drop_more parts i d within)
 
--- where a part was refused, a first part of the whole text was given
-pub given_to : {X T E : Type 0} (text : X → List ℕ) (parts : List X) (i : ℕ) (d : X) (r : Result T E) (first now new : Option Contents) (was mid count : ℕ)
-    → i < length parts → is_err r ≡ true → now ≡ option_map (append_err (concat (map text (take i parts)))) first
-    → Gives r (text (get_or parts i d)) now new → was ≤ mid → OnErr r (Rose mid count)
-    → GivesLine (concat (map text parts)) first new was count
-given_to text parts i d (Ok x) first now new was mid count within is at gives kept cause = absurd (cc)
-given_to text parts i d (Err e) first now new was mid count within is at gives kept cause = record {
-  part = concat (map text (take i parts)) ++ gives.0;
-  rest = gives.1 ++ concat (map text (drop (i + 1) parts));
-  splits = concat_split text parts i d within
-      ∙ ap (λ xs. concat (map text (take i parts)) ++ (xs ++ concat (map text (drop (i + 1) parts)))) gives.2
-      ∙ ap (λ xs. concat (map text (take i parts)) ++ xs) (append_assoc gives.0 gives.1 (concat (map text (drop (i + 1) parts))))
-      ∙ sym (append_assoc (concat (map text (take i parts))) gives.0 (gives.1 ++ concat (map text (drop (i + 1) parts))));
-  given = gives.3 ∙ ap (option_map (append_err gives.0)) at ∙ err_after (concat (map text (take i parts))) gives.0 first;
-  whole = inr (le-Rose was mid count kept cause);
-}
+-- A call that gives a part, after those before it were given.
+pub record GivesNext {T E : Type 0} (parts : List Part) (r : Result T E) (old new : Option Contents) : Type 0 where
+  pub place : ℕ
+  pub part : Part
+  pub mid : Option Contents
+  pub within : place < length parts
+  pub before : mid ≡ option_map (append_err (concat (map part_text (take place parts)))) old
+  pub gives : Gives r (part_text (get_or parts place part)) mid new
+
+-- where it was refused, a first part of the whole text was given
+pub given_to : {T E : Type 0} (parts : List Part) (r : Result T E) (old new : Option Contents) → GivesNext parts r old new → (was now : ℕ)
+    → is_err r ≡ true → Rose was now → GivesLine (concat (map part_text parts)) old new was now
+given_to parts (Ok x) old new next was now is rose = absurd (cc)
+given_to parts (Err e) old new next was now is rose =
+    let first = concat (map part_text (take next.place parts)) in
+    let rest = concat (map part_text (drop (next.place + 1) parts)) in
+    let gives = next.gives in
+    record {
+      part = first ++ gives.0;
+      rest = gives.1 ++ rest;
+      splits = concat_split part_text parts next.place next.part next.within
+          ∙ ap (λ xs. first ++ (xs ++ rest)) gives.2
+          ∙ ap (λ xs. first ++ xs) (append_assoc gives.0 gives.1 rest)
+          ∙ sym (append_assoc first gives.0 (gives.1 ++ rest));
+      given = gives.3 ∙ ap (option_map (append_err gives.0)) next.before ∙ err_after first gives.0 old;
+      whole = inr rose;
+    }
 
 -- where it was given, one part more was given
-pub given_more : {X T E : Type 0} (text : X → List ℕ) (parts : List X) (i : ℕ) (d : X) (r : Result T E) (first now new : Option Contents)
-    → i < length parts → is_err r ≡ false → now ≡ option_map (append_err (concat (map text (take i parts)))) first
-    → Gives r (text (get_or parts i d)) now new
-    → new ≡ option_map (append_err (concat (map text (take (i + 1) parts)))) first
-given_more text parts i d (Ok x) first now new within is at gives =
-    gives ∙ ap (option_map (append_err (text (get_or parts i d)))) at ∙ err_after (concat (map text (take i parts))) (text (get_or parts i d)) first
-    ∙ ap (λ xs. option_map (append_err xs) first) (sym (concat_more text parts i d within))
-given_more text parts i d (Err e) first now new within is at gives = absurd (cc)
+pub given_more : {T E : Type 0} (parts : List Part) (r : Result T E) (old new : Option Contents) → (next : GivesNext parts r old new)
+    → is_err r ≡ false → new ≡ option_map (append_err (concat (map part_text (take (next.place + 1) parts)))) old
+given_more parts (Ok x) old new next is =
+    let text = part_text (get_or parts next.place next.part) in
+    next.gives ∙ ap (option_map (append_err text)) next.before ∙ err_after (concat (map part_text (take next.place parts))) text old
+    ∙ ap (λ xs. option_map (append_err xs) old) (sym (concat_more part_text parts next.place next.part next.within))
+given_more parts (Err e) old new next is = absurd (cc)
 
 -- the line of what is written to the file of an output
 pub output_line : (what prefix digits : List ℕ) (end : List ℕ) → what ++ (prefix ++ (46 ∷ (digits ++ (46 ∷ 112 ∷ 99 ∷ 97 ∷ 112 ∷ end)))) ≡ what

@@ -10,23 +10,38 @@ use Rattle.std.proofs.lemmas.List.Sums.{fold-append, fold_more}
 use Rattle.outside.specs.Contents.{Contents, append_out}
 use Rattle.outside.specs.Faults.{Place, NeverFall}
 use Rattle.outside.specs.WholeFiles.{NamedBytes, Puts, StopsAt, put_file}
-use Rattle.outside.proofs.Counting.{NeverFall-refl}
+use Rattle.outside.proofs.Counting.{last_calls}
 use Rattle.outside.proofs.Putting.{StopsAt-wider}
 use Rattle.outside.proofs.Effects.{option_map-option_map}
 use Rattle.job_files.specs.OutputFiles.{files_from, nameless, output_name, put_files, shown}
-use Rattle.job_files.specs.FileSteps.{StopsAtPlace, StopsPutting, written_at}
+use Rattle.job_files.specs.FileSteps.{StopsAtPlace, StopsPutting, all_shown, pieced, written_at}
+use Rattle.job_files.specs.declared.output_files.JobTexts.{JobTexts}
 use Rattle.job_files.specs.declared.output_files.OutputFile.{OutputFile}
 use Rattle.job_files.proofs.Holding.{length-files_from}
 
--- a call on one of the files failed
-pub put_to : {X T E : Type 0} (text : X → NamedBytes) (files : List X) (i : ℕ) (x : X) (r : Result T E) (a b d : Place → ℕ) (o now new : Option Contents)
-    → i < length files → x ≡ get_or files i x → is_err r ≡ true → NeverFall a b → now ≡ option_map (put_files (take i (map text files))) o
-    → Puts r (text x) b d now new
-    → StopsAt (get_or (map text files) i nameless) a d (option_map (put_files (take i (map text files))) o) new
-put_to text files i x (Ok y) a b d o now new within is err kept at puts = absurd (cc)
-put_to text files i x (Err e) a b d o now new within is err kept at puts =
-    let same : get_or (map text files) i nameless ≡ text x = get_or-map text files i x nameless within ∙ ap text (sym is) in
-    rw same (subst (λ (before : Option Contents). StopsAt (text x) a d before new) at (StopsAt-wider (text x) a b d d now new kept (NeverFall-refl d) puts))
+-- A call that puts the file of a place, after those before it were put.
+pub record PutsNext {T E : Type 0} (files : List OutputFile) (r : Result T E) (was now : Place → ℕ) (old new : Option Contents) : Type 0 where
+  pub place : ℕ
+  pub file : OutputFile
+  pub mid : Option Contents
+  pub within : place < length files
+  pub file_is : file ≡ get_or files place file
+  pub before : mid ≡ option_map (put_files (take place (map shown files))) old
+  pub puts : Puts r (shown file) was now mid new
+
+-- the file, among all
+next_file : (files : List OutputFile) (place : ℕ) (file : OutputFile) → place < length files → file ≡ get_or files place file
+    → get_or (map shown files) place nameless ≡ shown file
+next_file files place file within is = get_or-map shown files place file nameless within ∙ ap shown (sym is)
+
+-- it failed
+pub put_to : {T E : Type 0} (files : List OutputFile) (r : Result T E) (was now : Place → ℕ) (old new : Option Contents)
+    → (next : PutsNext files r was now old new) → is_err r ≡ true
+    → StopsAt (get_or (map shown files) next.place nameless) was now (option_map (put_files (take next.place (map shown files))) old) new
+put_to files (Ok y) was now old new next err = absurd (cc)
+put_to files (Err e) was now old new next err =
+    rw (next_file files next.place next.file next.within next.file_is)
+    (subst (λ (before : Option Contents). StopsAt (shown next.file) was now before new) next.before next.puts)
 
 one_more_put : (files : List NamedBytes) (i : ℕ) (o : Option Contents) → i < length files
     → option_map (λ c. put_file (put_files (take i files) c) (get_or files i nameless)) o ≡ option_map (put_files (take (i + 1) files)) o
@@ -44,16 +59,15 @@ went_wrong (Ok x) is holds = absurd (cc)
 went_wrong (Err e) is holds = holds
 
 -- one file more is put
-pub put_more : {X T E : Type 0} (text : X → NamedBytes) (files : List X) (i : ℕ) (x : X) (r : Result T E) (b d : Place → ℕ) (o now new : Option Contents)
-    → i < length files → x ≡ get_or files i x → is_err r ≡ false → now ≡ option_map (put_files (take i (map text files))) o → Puts r (text x) b d now new
-    → new ≡ option_map (put_files (take (i + 1) (map text files))) o
-put_more text files i x (Ok y) b d o now new within is err at puts =
-    let same : get_or (map text files) i nameless ≡ text x = get_or-map text files i x nameless within ∙ ap text (sym is) in
-    let inside : i < length (map text files) = omega (arith, length-map files text) in
-    puts ∙ ap (option_map (λ c. put_file c (text x))) at ∙ option_map-option_map (put_files (take i (map text files))) (λ c. put_file c (text x)) o
-    ∙ ap (λ f. option_map (λ c. put_file (put_files (take i (map text files)) c) f) o) (sym same)
-    ∙ one_more_put (map text files) i o inside
-put_more text files i x (Err e) b d o now new within is err at puts = absurd (cc)
+pub put_more : {T E : Type 0} (files : List OutputFile) (r : Result T E) (was now : Place → ℕ) (old new : Option Contents)
+    → (next : PutsNext files r was now old new) → is_err r ≡ false → new ≡ option_map (put_files (take (next.place + 1) (map shown files))) old
+put_more files (Ok y) was now old new next err =
+    let before = put_files (take next.place (map shown files)) in
+    let inside : next.place < length (map shown files) = omega (arith, length-map files shown, next.within) in
+    next.puts ∙ ap (option_map (λ c. put_file c (shown next.file))) next.before ∙ option_map-option_map before (λ c. put_file c (shown next.file)) old
+    ∙ ap (λ f. option_map (λ c. put_file (before c) f) old) (sym (next_file files next.place next.file next.within next.file_is))
+    ∙ one_more_put (map shown files) next.place old inside
+put_more files (Err e) was now old new next err = absurd (cc)
 
 -- The names of the files
 
@@ -81,14 +95,6 @@ pub pushed : {A T E : Type 0} (r : Result T E) (new old : List A) (x : A) (y : T
     → new ≡ old ++ x ∷ []
 pushed r new old x y e ok = rw ok at e
 
--- the same where the name and the bytes were taken out of the file
-pub puts_of : {T E : Type 0} (r : Result T E) (f : NamedBytes) (name bytes : List ℕ) (a d : Place → ℕ) (o new : Option Contents) → name ≡ f.name
-    → bytes ≡ f.bytes
-    → Puts r (record { name = name; bytes = bytes }) a d o new → Puts r f a d o new
-puts_of r f name bytes a d o new name_is bytes_is puts =
-    subst (λ (n : List ℕ). Puts r (record { name = n; bytes = f.bytes }) a d o new) name_is
-    (subst (λ (bs : List ℕ). Puts r (record { name = name; bytes = bs }) a d o new) bytes_is puts)
-
 -- a call on one of the first files was refused
 stops_front : (first more : List NamedBytes) (place : ℕ) (old new : Option Contents) (was now : Place → ℕ) → place < length first
     → StopsAt (get_or first place nameless) was now (option_map (put_files (take place first)) old) new
@@ -102,13 +108,17 @@ stops_front first more place old new was now within stops =
           (subst (λ (fs : List NamedBytes). StopsAt (get_or first place nameless) was now (option_map (put_files fs) old) new) (sym before) stops);
     }
 
--- a call on the file at a place before the packets file, after so many outputs, was refused
-pub stops_at_place : (outputs : ℕ) (first more : List NamedBytes) (text : List ℕ) (place : ℕ)
-    → (old new : Option Contents) (was now : Place → ℕ) → place < length first
-    → StopsAt (get_or first place nameless) was now (option_map (put_files (take place first)) old) new
-    → StopsPutting outputs (length first) (first ++ more) text (written_at place outputs) old was now new
-stops_at_place outputs first more text place old new was now within stops =
-    let at = stops_front first more place old new was now within stops in
+-- a call on the file at a place before the packets file was refused
+pub stops_at_place : {P : Type 0} (left : P → List ℕ) (texts : JobTexts P) (place : ℕ) (old new : Option Contents) (was now : Place → ℕ)
+    → place < length texts.files.items
+    → StopsAt (get_or (map shown texts.files.items) place nameless) was now (option_map (put_files (take place (map shown texts.files.items))) old) new
+    → StopsPutting texts.outputs (length texts.files.items) (all_shown left texts) (string_bytes texts.summary) (written_at place texts.outputs) old
+    was now new
+stops_at_place left texts place old new was now within stops =
+    let outputs = texts.outputs in
+    let first = map shown texts.files.items in
+    let more = pieced left texts.packets in
+    let at = stops_front first more place old new was now (omega (arith, within, length-map texts.files.items shown)) stops in
     elim (cases_lt place outputs) [
       | inl before ↦ rw (lt-ltb place outputs before) (before, at)
       | inr after ↦ elim (eqb_tells place outputs) [
@@ -118,19 +128,19 @@ stops_at_place outputs first more text place old new was now within stops =
     ]
 
 -- files put, and then more
-pub put_then : (first more : List NamedBytes) (o : Option Contents)
+put_then : (first more : List NamedBytes) (o : Option Contents)
     → option_map (put_files more) (option_map (put_files first) o) ≡ option_map (put_files (first ++ more)) o
 put_then first more None = refl
 put_then first more (Some c) = ap Some (sym (fold-append put_file c first more))
 
--- files put, then more, and then a text given to standard output
-pub put_and_given : (first more : List NamedBytes) (bytes text : List ℕ) (o mid packed new : Option Contents) → bytes ≡ text
-    → mid ≡ option_map (put_files first) o → packed ≡ option_map (put_files more) mid → new ≡ option_map (append_out bytes) packed
-    → new ≡ option_map (λ c. append_out text (put_files (first ++ more) c)) o
-put_and_given first more bytes text o mid packed new same put wrote given =
-    given ∙ ap (λ b. option_map (append_out b) packed) same
-    ∙ ap (option_map (append_out text)) (wrote ∙ ap (option_map (put_files more)) put ∙ put_then first more o)
-    ∙ option_map-option_map (put_files (first ++ more)) (append_out text) o
+pub put_all : (first more : List NamedBytes) (o mid new : Option Contents) → mid ≡ option_map (put_files first) o → new ≡ option_map (put_files more) mid
+    → new ≡ option_map (put_files (first ++ more)) o
+put_all first more o mid new put wrote = wrote ∙ ap (option_map (put_files more)) put ∙ put_then first more o
+
+-- files put, and then a text given to standard output
+pub put_and_given : (files : List NamedBytes) (text : List ℕ) (o packed new : Option Contents) → packed ≡ option_map (put_files files) o
+    → new ≡ option_map (append_out text) packed → new ≡ option_map (λ c. append_out text (put_files files c)) o
+put_and_given files text o packed new put given = given ∙ ap (option_map (append_out text)) put ∙ option_map-option_map (put_files files) (append_out text) o
 
 none_put : (o : Option Contents) → option_map (put_files []) o ≡ o
 none_put None = refl
@@ -148,16 +158,13 @@ after_first [] more = refl
 after_first (f ∷ first) more = after_first first more
 
 -- a call on the file after the first was refused, which were put
-pub stops_after : (first more : List NamedBytes) (a b d : Place → ℕ) (old mid new : Option Contents) → NeverFall a b
-    → mid ≡ option_map (put_files first) old → StopsAtPlace more 0 mid b d new → StopsAtPlace (first ++ more) (length first) old a d new
-stops_after first more a b d old mid new kept put stops =
-    let same = after_first first more in
-    let before = take-append_seam first more in
-    let from : option_map (put_files (take (length first) (first ++ more))) old ≡ option_map (put_files []) mid =
-    ap (λ fs. option_map (put_files fs) old) before ∙ sym put ∙ sym (none_put mid) in
+pub stops_after : (first more : List NamedBytes) (was mid now : Place → ℕ) (old new : Option Contents) → NeverFall was mid
+    → StopsAtPlace more 0 (option_map (put_files first) old) mid now new → StopsAtPlace (first ++ more) (length first) old was now new
+stops_after first more was mid now old new kept stops =
+    let before : option_map (put_files (take (length first) (first ++ more))) old ≡ option_map (put_files []) (option_map (put_files first) old) =
+    ap (λ fs. option_map (put_files fs) old) (take-append_seam first more) ∙ sym (none_put (option_map (put_files first) old)) in
     record {
       within = omega (arith, stops.within, length-append first more);
-      stops = subst (λ (f : NamedBytes). StopsAt f a d (option_map (put_files (take (length first) (first ++ more))) old) new) (sym same)
-          (subst (λ (o : Option Contents). StopsAt (get_or more 0 nameless) a d o new) (sym from)
-          (StopsAt-wider (get_or more 0 nameless) a b d d _ new kept (NeverFall-refl d) stops.stops));
+      stops = rw (after_first first more, before)
+          (StopsAt-wider (get_or more 0 nameless) was now (last_calls was mid now kept) _ new stops.stops);
     }

@@ -25,6 +25,21 @@ Rose-NeverFall a b c p rose kept = Rose-le (a p) (b p) (c p) rose (kept p)
 pub NeverFall-Rose : (a b c : Place → ℕ) (p : Place) → NeverFall a b → Rose (b p) (c p) → Rose (a p) (c p)
 NeverFall-Rose a b c p kept rose = le-Rose (a p) (b p) (c p) (kept p) rose
 
--- a count that rose within a span of calls rose in it
-pub Rose-wider : (a b c d : Place → ℕ) (p : Place) → NeverFall a b → NeverFall c d → Rose (b p) (c p) → Rose (a p) (d p)
-Rose-wider a b c d p before after rose = NeverFall-Rose a b d p before (Rose-NeverFall b c d p rose after)
+-- Some of the calls by which the counts came from these to those: the counts before and after them.
+pub record CallsAmong (was now : Place → ℕ) : Type 0 where
+  pub from : Place → ℕ
+  pub to : Place → ℕ
+  pub before : NeverFall was from
+  pub after : NeverFall to now
+
+-- the first of them
+abbrev pub first_calls : (was mid now : Place → ℕ) → NeverFall mid now → CallsAmong was now
+first_calls was mid now kept = record { from = was; to = mid; before = NeverFall-refl was; after = kept }
+
+-- the last of them
+abbrev pub last_calls : (was mid now : Place → ℕ) → NeverFall was mid → CallsAmong was now
+last_calls was mid now kept = record { from = mid; to = now; before = kept; after = NeverFall-refl now }
+
+-- a count that rose in some of the calls rose
+pub Rose-wider : (was now : Place → ℕ) (some : CallsAmong was now) (p : Place) → Rose (some.from p) (some.to p) → Rose (was p) (now p)
+Rose-wider was now some p rose = NeverFall-Rose was some.from now p some.before (Rose-NeverFall some.from some.to now p rose some.after)

@@ -12,7 +12,7 @@ use Rattle.switch_words.specs.Reading.{JobWords, run, gen, check, firm, CheckWor
 use Rattle.switch_plan.specs.GoodPlans.{SwitchPlan, IsGood}
 use Rattle.run_laws.specs.Ends.{IsLengthUnder}
 use Rattle.named_schedulers.specs.Named.{decision_named}
-use Rattle.switch_run.specs.Causes.{Answers, IsReadable, IsRunFor, TooLongIsExact, UsageIsExact, scheduler_in}
+use Rattle.switch_run.specs.Causes.{Answers, AnswersUnlessOut, IsReadable, IsRunFor, TooLongIsExact, UsageIsExact, scheduler_in}
 use Rattle.switch_run.specs.Endings.{Command, IsFirstTooLong, IsMade, IsStopped, Stops}
 use Rattle.job_files.specs.Statuses.{check_status, status_of}
 use Rattle.job_files.specs.Inputs.{AreFilesRead, AreInputs, CapturesRead, EarlierFit, IsTooLongFor}
@@ -60,17 +60,22 @@ earlier_capture r c p q less within earlier long =
     (subst (λ (name : List ℕ). Fits (capture_bytes r.long) c name) (get_or-take q r.inputs p [] less)
     (All-get_or (Fits (capture_bytes r.long) c) (take q r.inputs) p [] short earlier.1)) long
 
--- two files that are each the first that is too long are one
-first_long : (r : ReadWords) (c : Contents) (a b : InputFile) → IsInput r a → IsInput r b → EarlierFit r a c → EarlierFit r b c → IsTooLongFor r a c
-    → IsTooLongFor r b c → a ≡ b
-first_long r c Table Table known_a known_b earlier_a earlier_b long_a long_b = refl
-first_long r c Table (Capture q) known_a known_b earlier_a earlier_b long_a long_b = absurd (not_both_long (most_bytes r Table) c r.table earlier_b.0 long_a)
-first_long r c (Capture p) Table known_a known_b earlier_a earlier_b long_a long_b = absurd (not_both_long (most_bytes r Table) c r.table earlier_a.0 long_b)
-first_long r c (Capture p) (Capture q) known_a known_b earlier_a earlier_b long_a long_b =
+-- a file of the run is too long, and those before it are not
+record IsLongOf (r : ReadWords) (contents : Contents) (input : InputFile) : Type 0 where
+  pub known : IsInput r input
+  pub earlier : EarlierFit r input contents
+  pub longer : IsTooLongFor r input contents
+
+-- two such files are one
+first_long : (r : ReadWords) (c : Contents) (a b : InputFile) → IsLongOf r c a → IsLongOf r c b → a ≡ b
+first_long r c Table Table one other = refl
+first_long r c Table (Capture q) one other = absurd (not_both_long (most_bytes r Table) c r.table other.earlier.0 one.longer)
+first_long r c (Capture p) Table one other = absurd (not_both_long (most_bytes r Table) c r.table one.earlier.0 other.longer)
+first_long r c (Capture p) (Capture q) one other =
     elim (cases_lt p q) [
-      | inl less ↦ absurd (earlier_capture r c p q less known_b earlier_b long_a)
+      | inl less ↦ absurd (earlier_capture r c p q less other.known other.earlier one.longer)
       | inr not_less ↦ elim (cases_lt q p) [
-        | inl more ↦ absurd (earlier_capture r c q p more known_a earlier_a long_b)
+        | inl more ↦ absurd (earlier_capture r c q p more one.known one.earlier other.longer)
         | inr not_more ↦ let same : p ≡ q = omega arith in ap Capture same
       ]
     ]
@@ -181,12 +186,6 @@ pub no_read_fault : (c : Command) (job : JobWords) (contents : Contents) (input 
 no_read_fault c job contents input read s = let stops = stops_here c job contents (ReadFault input) read.words read.seen s in
     read.reads stops.0.words input stops.0.reads stops.0.known stops.0.rose
 
--- a file of the run is too long, and those before it are not
-record IsLongOf (r : ReadWords) (contents : Contents) (input : InputFile) : Type 0 where
-  pub known : IsInput r input
-  pub earlier : EarlierFit r input contents
-  pub longer : IsTooLongFor r input contents
-
 long_of : (job : JobWords) (r : ReadWords) (contents : Contents) (input : InputFile) → reads_of job ≡ Some r → IsFirstTooLong job (Some contents) input
     → IsLongOf r contents input
 long_of job r contents input is f =
@@ -194,39 +193,45 @@ long_of job r contents input is f =
     (record { known = f.known; earlier = f.earlier; longer = f.longer })
 
 -- a file of the inputs is not too long
-pub long_of_inputs : (job : JobWords) (r : ReadWords) (c : Contents) (table : List ℕ) (captures : List (List ℕ)) (input : InputFile) → reads_of job ≡ Some r
-    → AreInputs job (Some c) table captures → IsInput r input
-    → IsTooLongFor r input c → ⊥
-long_of_inputs job r c table captures input reads inputs known long =
-    long_was_read r c table captures input (files_read job r (Some c) table captures reads inputs) known long
+pub long_of_inputs : (job : JobWords) (c : Contents) (table : List ℕ) (captures : List (List ℕ)) (input : InputFile) → AreInputs job (Some c) table captures
+    → IsFirstTooLong job (Some c) input → ⊥
+long_of_inputs job c table captures input inputs long =
+    long_was_read long.words c table captures input (files_read job long.words (Some c) table captures long.reads inputs) long.known long.longer
+
+-- where a file is too long, the answer says so
+long_answered : (c : Command) (status : ℕ) (ending : Ending) → Answers c status ending → (job : JobWords) (contents : Contents) (input : InputFile)
+    → IsReadable c job contents → IsFirstTooLong job (Some contents) input → AnswersUnlessOut c status (TooLong input)
+long_answered c status Done a job contents input read long =
+    let m = made_of c job a.1.0 contents a.1.2.texts read a.1.1 a.1.2.made in
+    absurd (long_of_inputs job contents m.table m.captures input m.inputs long)
+long_answered c status Usage a job contents input read long = absurd (no_job c job read.words a.1.0)
+long_answered c status (ReadFault other) a job contents input read long = absurd (no_read_fault c job contents other read a.1)
+long_answered c status (TooLong other) a job contents input read long =
+    let stops = stops_here c job contents (TooLong other) read.words read.seen a.1 in
+    let first = long_of job long.words contents other long.reads stops.0 in
+    let same = first_long long.words contents other input first (record { known = long.known; earlier = long.earlier; longer = long.longer }) in
+    inl (subst (λ (i : InputFile). Answers c status (TooLong i)) same a)
+long_answered c status (Refused fault) a job contents input read long =
+    let stops = stops_here c job contents (Refused fault) read.words read.seen a.1 in
+    absurd (long_of_inputs job contents stops.0.table stops.0.captures input stops.0.inputs long)
+long_answered c status (JournalTooLong size) a job contents input read long =
+    let stops = stops_here c job contents (JournalTooLong size) read.words read.seen a.1 in
+    absurd (long_of_inputs job contents stops.0.table stops.0.captures input stops.0.inputs long)
+long_answered c status (PacketsTooLong size) a job contents input read long =
+    let stops = stops_here c job contents (PacketsTooLong size) read.words read.seen a.1 in
+    absurd (long_of_inputs job contents stops.0.table stops.0.captures input stops.0.inputs long)
+long_answered c status OutOfMemory a job contents input read long = inr a
+long_answered c status (WriteFault written) a job contents input read long =
+    let stops = stops_here c job contents (WriteFault written) read.words read.seen a.1 in
+    absurd (long_of_inputs job contents stops.made.table stops.made.captures input stops.made.inputs long)
+long_answered c status (Checked e) a job contents input read long =
+    let stops = stops_here c job contents (Checked e) read.words read.seen a.1 in
+    absurd (no_reads job stops.words long.words stops.is_check long.reads)
 
 pub too_long_exact : (c : Command) (status : ℕ) (ending : Ending) → Answers c status ending → TooLongIsExact c status
-too_long_exact c status Done a job r contents input read reads known earlier long =
-    let m = made_of c job a.1.0 contents a.1.2.texts read a.1.1 a.1.2.made in
-    absurd (long_of_inputs job r contents m.table m.captures input reads m.inputs known long)
-too_long_exact c status Usage a job r contents input read reads known earlier long = absurd (no_job c job read.words a.1.0)
-too_long_exact c status (ReadFault other) a job r contents input read reads known earlier long = absurd (no_read_fault c job contents other read a.1)
-too_long_exact c status (TooLong other) a job r contents input read reads known earlier long =
-    let stops = stops_here c job contents (TooLong other) read.words read.seen a.1 in
-    let first = long_of job r contents other reads stops.0 in
-    let same = first_long r contents other input first.known known first.earlier earlier first.longer long in
-    inl (subst (λ (i : InputFile). Answers c status (TooLong i)) same a)
-too_long_exact c status (Refused fault) a job r contents input read reads known earlier long =
-    let stops = stops_here c job contents (Refused fault) read.words read.seen a.1 in
-    absurd (long_of_inputs job r contents stops.0.table stops.0.captures input reads stops.0.inputs known long)
-too_long_exact c status (JournalTooLong size) a job r contents input read reads known earlier long =
-    let stops = stops_here c job contents (JournalTooLong size) read.words read.seen a.1 in
-    absurd (long_of_inputs job r contents stops.0.table stops.0.captures input reads stops.0.inputs known long)
-too_long_exact c status (PacketsTooLong size) a job r contents input read reads known earlier long =
-    let stops = stops_here c job contents (PacketsTooLong size) read.words read.seen a.1 in
-    absurd (long_of_inputs job r contents stops.0.table stops.0.captures input reads stops.0.inputs known long)
-too_long_exact c status OutOfMemory a job r contents input read reads known earlier long = inr a
-too_long_exact c status (WriteFault written) a job r contents input read reads known earlier long =
-    let stops = stops_here c job contents (WriteFault written) read.words read.seen a.1 in
-    absurd (long_of_inputs job r contents stops.made.table stops.made.captures input reads stops.made.inputs known long)
-too_long_exact c status (Checked e) a job r contents input read reads known earlier long =
-    let stops = stops_here c job contents (Checked e) read.words read.seen a.1 in
-    absurd (no_reads job stops.words r stops.is_check reads)
+too_long_exact c status ending a job r contents input read reads known earlier long =
+    long_answered c status ending a job contents input read
+    (record { words = r; reads = reads; known = known; earlier = earlier; longer = long })
 
 -- ---- the run behind a command
 

@@ -11,7 +11,7 @@ use Rattle.named_schedulers.specs.Named.{decision_named}
 use Rattle.run_journals.specs.RunFiles.{journal_text_under}
 use Rattle.packet_times.specs.Rows.{packets_text_under}
 use Rattle.switch_run.specs.Causes.{Answers, AreWritable, IsComplete, IsWritable}
-use Rattle.switch_run.specs.Endings.{Command, IsMade, StopsWriting}
+use Rattle.switch_run.specs.Endings.{Command, IsWriteFault}
 use Rattle.job_files.specs.Jobs.{RunsSwitch}
 use Rattle.job_files.specs.OutputFiles.{files_from, journal_files, journal_name, nameless, output_name, packets_files, packets_name, packets_place}
 use Rattle.job_files.specs.OutputFiles.{report_name, run_files, Texts}
@@ -113,35 +113,34 @@ goes_on c f name before after same free stops =
     let here = subst (IsWritable c) (sym same) free in
     elim stops [ AtBegin rose was ↦ here.begins rose | AtWrite n rose part ↦ here.writes rose ]
 
-no_write_fault : (c : Command) (job : JobWords) (contents : Contents) (texts : Texts) (seen : Option Contents) (written : Written) → RunsSwitch job
-    → AreWritable c job → IsMade job (Some contents) texts
-    → StopsWriting job texts written (Some contents) c.was c.now seen → ⊥
-no_write_fault c (run r) contents texts seen (Output port) runs free made s =
-    let port_in : port < length r.inputs = omega (arith, s.0, made.count, made.inputs.captures_read.count) in
-    goes_on c _ (output_name r.prefix port) _ seen (name_of_output r texts port s.0) (free.outputs r port refl port_in) s.1.stops
-no_write_fault c (run r) contents texts seen Report runs free made s =
-    goes_on c _ (report_name r.prefix) _ seen (name_of_report r texts) (free.report r refl) s.stops
-no_write_fault c (run r) contents texts seen Journal runs free made s =
-    let is = made.outcome in
-    let wanted = was_wanted r.journal (journal_text_under (decision_named r.scheduler) is.plan is.slots) texts.journal
-    (ap (λ (t : Texts). t.journal) is.are) s.0 in
-    goes_on c _ (journal_name r.prefix) _ seen (journal_at r texts texts.journal texts.packets s.0) (free.journal r refl wanted) s.1.stops
-no_write_fault c (run r) contents texts seen Packets runs free made s =
-    let is = made.outcome in
-    let at = packets_at r texts texts.journal texts.packets s.within in
-    let wanted = was_wanted r.packets (packets_text_under (decision_named r.scheduler) is.plan is.slots) texts.packets
+no_write_fault : (c : Command) (job : JobWords) (contents : Contents) (seen : Option Contents) (written : Written) → RunsSwitch job → AreWritable c job
+    → IsWriteFault job (Some contents) c.was c.now seen written → ⊥
+no_write_fault c (run r) contents seen (Output port) runs free f =
+    let port_in : port < length r.inputs = omega (arith, f.stops.0, f.made.count, f.made.inputs.captures_read.count) in
+    goes_on c _ (output_name r.prefix port) _ seen (name_of_output r f.texts port f.stops.0) (free.outputs r port refl port_in) f.stops.1.stops
+no_write_fault c (run r) contents seen Report runs free f =
+    goes_on c _ (report_name r.prefix) _ seen (name_of_report r f.texts) (free.report r refl) f.stops.stops
+no_write_fault c (run r) contents seen Journal runs free f =
+    let is = f.made.outcome in
+    let wanted = was_wanted r.journal (journal_text_under (decision_named r.scheduler) is.plan is.slots) f.texts.journal
+    (ap (λ (t : Texts). t.journal) is.are) f.stops.0 in
+    goes_on c _ (journal_name r.prefix) _ seen (journal_at r f.texts f.texts.journal f.texts.packets f.stops.0) (free.journal r refl wanted) f.stops.1.stops
+no_write_fault c (run r) contents seen Packets runs free f =
+    let is = f.made.outcome in
+    let at = packets_at r f.texts f.texts.journal f.texts.packets f.stops.within in
+    let wanted = was_wanted r.packets (packets_text_under (decision_named r.scheduler) is.plan is.slots) f.texts.packets
     (ap (λ (t : Texts). t.packets) is.are) at.0 in
-    goes_on c _ (packets_name r.prefix) _ seen at.1 (free.packets r refl wanted) s.stops
-no_write_fault c (gen g) contents texts seen (Output port) runs free made s = omega (arith, s.1.within)
-no_write_fault c (gen g) contents texts seen Report runs free made s = omega (arith, s.within)
-no_write_fault c (gen g) contents texts seen Journal runs free made s = omega (arith, s.1.within)
-no_write_fault c (gen g) contents texts seen Packets runs free made s = omega (arith, s.within)
-no_write_fault c (check w) contents texts seen written runs free made s = runs
-no_write_fault c (firm f) contents texts seen (Output port) runs free made s = omega (arith, s.1.within)
-no_write_fault c (firm f) contents texts seen Report runs free made s = omega (arith, s.within)
-no_write_fault c (firm f) contents texts seen Journal runs free made s = omega (arith, s.1.within)
-no_write_fault c (firm f) contents texts seen Packets runs free made s = omega (arith, s.within)
-no_write_fault c job contents texts seen StandardOutput runs free made s = free.out s.rose
+    goes_on c _ (packets_name r.prefix) _ seen at.1 (free.packets r refl wanted) f.stops.stops
+no_write_fault c (gen g) contents seen (Output port) runs free f = omega (arith, f.stops.1.within)
+no_write_fault c (gen g) contents seen Report runs free f = omega (arith, f.stops.within)
+no_write_fault c (gen g) contents seen Journal runs free f = omega (arith, f.stops.1.within)
+no_write_fault c (gen g) contents seen Packets runs free f = omega (arith, f.stops.within)
+no_write_fault c (check w) contents seen written runs free f = runs
+no_write_fault c (firm w) contents seen (Output port) runs free f = omega (arith, f.stops.1.within)
+no_write_fault c (firm w) contents seen Report runs free f = omega (arith, f.stops.within)
+no_write_fault c (firm w) contents seen Journal runs free f = omega (arith, f.stops.1.within)
+no_write_fault c (firm w) contents seen Packets runs free f = omega (arith, f.stops.within)
+no_write_fault c job contents seen StandardOutput runs free f = free.out f.stops.rose
 
 check_runs_none : (job : JobWords) (words : CheckWords) → job ≡ check words → RunsSwitch job → ⊥
 check_runs_none job words is runs = subst RunsSwitch is runs
@@ -165,7 +164,7 @@ complete c status (PacketsTooLong size) a job contents runs read written fit tak
 complete c status OutOfMemory a job contents runs read written fit taken short small = inr a.0
 complete c status (WriteFault what) a job contents runs read written fit taken short small =
     let stops = stops_here c job contents (WriteFault what) read.words read.seen a.1 in
-    absurd (no_write_fault c job contents stops.texts a.1.seen what runs written stops.made stops.stops)
+    absurd (no_write_fault c job contents a.1.seen what runs written stops)
 complete c status (Checked e) a job contents runs read written fit taken short small =
     let stops = stops_here c job contents (Checked e) read.words read.seen a.1 in
     absurd (check_runs_none job stops.words stops.is_check runs)

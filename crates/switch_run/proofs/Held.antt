@@ -84,11 +84,9 @@ held_end job old mid new was now ending runs stays is =
     subst (λ (o : Option Contents). IsEndOf job o was now new ending)
     (sym (held_after old mid new stays (end_changes job mid new was now ending runs is))) is
 
--- of an end before a line was given
-pub held_before_line : (job : JobWords) (text : List ℕ) (old mid new : Option Contents) (was between : Place → ℕ) (was_err now_err : ℕ) (ending : Ending)
-    → GivesLine text mid new was_err now_err → IsEndOf job (held old mid) was between mid ending → IsEndOf job (held old new) was between mid ending
-held_before_line job text old mid new was between was_err now_err ending line is =
-    subst (λ (o : Option Contents). IsEndOf job o was between mid ending) (sym (held_changed old mid new (append_err line.part, line.given))) is
+-- so a line that was given changes nothing of it
+pub held_before_line : (text : List ℕ) (old mid new : Option Contents) (was now : ℕ) → GivesLine text mid new was now → held old mid ≡ held old new
+held_before_line text old mid new was now line = sym (held_changed old mid new (append_err line.part, line.given))
 
 -- of a line alone
 pub held_line : (text : List ℕ) (old new : Option Contents) (was now : ℕ) → GivesLine text old new was now → GivesLine text (held old new) new was now

@@ -7,7 +7,7 @@ use Rattle.named_schedulers.specs.Named.{decision_named}
 use Rattle.switch_plan.specs.declared.fault.PlanFault.{PlanFault}
 use Rattle.switch_plan.specs.Refusals.{IsRefusal}
 use Rattle.switch_run.specs.Causes.{Answers, AnswersUnlessOut, IsReadable, JournalTooLongIsExact, PacketsTooLongIsExact, RefusalIsExact}
-use Rattle.switch_run.specs.Endings.{Command, IsFirstTooLong, IsJournalTooLong, IsMade, IsPacketsTooLong, IsRefused}
+use Rattle.switch_run.specs.Endings.{Command, IsJournalTooLong, IsMade, IsPacketsTooLong, IsRefused}
 use Rattle.job_files.specs.Inputs.{AreInputs}
 use Rattle.job_files.specs.Jobs.{terms_in}
 use Rattle.job_files.specs.OutputFiles.{Texts}
@@ -15,7 +15,6 @@ use Rattle.switch_run.specs.Switched.{IsLongJournal, IsLongPackets, JournalFits,
 use Rattle.job_files.specs.declared.ending.Ending.{Ending}
 use Rattle.job_files.specs.declared.ending.Ending.TheVariants.{Done, Usage, ReadFault, TooLong, Refused, JournalTooLong, PacketsTooLong, OutOfMemory}
 use Rattle.job_files.specs.declared.ending.Ending.TheVariants.{WriteFault, Checked}
-use Rattle.job_files.specs.declared.inputs.InputFile.{InputFile}
 use Rattle.switch_plan.proofs.Refused.{refusal_once}
 use Rattle.switch_run.proofs.OneOutcome.{not_long, not_long_packets, not_made}
 use Rattle.switch_run.proofs.OnePlan.{long_not_made, long_once, long_packets_not_made, long_packets_once}
@@ -45,11 +44,6 @@ nothing_made job c fault texts refused made =
 same_cause : (job : JobWords) (c : Contents) (fault found : PlanFault) → IsRefused job (Some c) fault → IsRefused job (Some c) found → found ≡ fault
 same_cause job c fault found refused other =
     refusal_once (terms_in job) other.table other.captures found fault other.outcome (refused_at job c fault refused other.table other.captures other.inputs)
-
--- a file that was read is not too long
-long_input : (job : JobWords) (contents : Contents) (table : List ℕ) (captures : List (List ℕ)) (input : InputFile)
-    → AreInputs job (Some contents) table captures → IsFirstTooLong job (Some contents) input → ⊥
-long_input job contents table captures input inputs f = long_of_inputs job f.words contents table captures input f.reads inputs f.known f.longer
 
 -- the journal of a run of these words is too long
 record IsLongIn (r : RunWords) (contents : Contents) (size : ℕ) : Type 0 where
@@ -138,7 +132,7 @@ module _ (c : Command) (status : ℕ) (job : JobWords) (contents : Contents) (fa
   refused_answer (ReadFault input) a = absurd (no_read_fault c job contents input read a.1)
   refused_answer (TooLong input) a =
       let stops = stops_here c job contents (TooLong input) read.words read.seen a.1 in
-      absurd (long_input job contents refused.table refused.captures input refused.inputs stops.0)
+      absurd (long_of_inputs job contents refused.table refused.captures input refused.inputs stops.0)
   refused_answer (Refused found) a =
       let stops = stops_here c job contents (Refused found) read.words read.seen a.1 in
       inl (subst (λ (f : PlanFault). Answers c status (Refused f)) (same_cause job contents fault found refused stops.0) a)
@@ -183,7 +177,7 @@ module _ (c : Command) (status : ℕ) (r : RunWords) (contents : Contents) (size
   long_answer (ReadFault input) a = absurd (no_read_fault c (run r) contents input read a.1)
   long_answer (TooLong input) a =
       let stops = stops_here c (run r) contents (TooLong input) read.words read.seen a.1 in
-      absurd (long_input (run r) contents long.table long.captures input long.inputs stops.0)
+      absurd (long_of_inputs (run r) contents long.table long.captures input long.inputs stops.0)
   long_answer (Refused fault) a =
       let stops = stops_here c (run r) contents (Refused fault) read.words read.seen a.1 in
       absurd (refused_is_not_long r contents fault size stops.0 long)
@@ -222,7 +216,7 @@ module _ (c : Command) (status : ℕ) (r : RunWords) (contents : Contents) (size
   packets_answer (ReadFault input) a = absurd (no_read_fault c (run r) contents input read a.1)
   packets_answer (TooLong input) a =
       let stops = stops_here c (run r) contents (TooLong input) read.words read.seen a.1 in
-      absurd (long_input (run r) contents long.table long.captures input long.inputs stops.0)
+      absurd (long_of_inputs (run r) contents long.table long.captures input long.inputs stops.0)
   packets_answer (Refused fault) a =
       let stops = stops_here c (run r) contents (Refused fault) read.words read.seen a.1 in
       absurd (refused_is_not_long_packets r contents fault size stops.0 long)

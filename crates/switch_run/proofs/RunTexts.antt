@@ -5,6 +5,7 @@ use Rattle.std.proofs.lemmas.List.{length-map}
 use Rattle.std.proofs.lemmas.List.FromFn.{length-map-range_with_len}
 use Rattle.pcap_records.specs.Output.{capture_text}
 use Rattle.eslip_rounds.specs.Schedulers.{Scheduler}
+use Rattle.firm_rounds.specs.Decisions.{firm_decision}
 use Rattle.named_schedulers.specs.Named.{decision_named}
 use Rattle.slot_histories.specs.Answers.{JournalSlot}
 use Rattle.slot_report.specs.declared.summary.OutLine.{OutLine}
@@ -12,7 +13,8 @@ use Rattle.slot_report.specs.declared.summary.Summary.{Summary}
 use Rattle.slot_report.specs.Lines.{lines_text}
 use Rattle.slot_report.specs.Texts.{journal_line, map_with_place, report_bytes, summary_lines}
 use Rattle.switch_words.specs.declared.job.Settings.{Settings}
-use Rattle.switch_words.specs.Reading.{JobWords, RunWords, run}
+use Rattle.switch_words.specs.declared.job.GenJob.{GenJob}
+use Rattle.switch_words.specs.Reading.{FirmWords, JobWords, RunWords, firm, gen, run}
 use Rattle.journal_check.specs.declared.limits.TheConstants.{MAX_JOURNAL_BYTES}
 use Rattle.switch_plan.specs.GoodPlans.{SwitchPlan}
 use Rattle.switch_plan.specs.ReadingSteps.{bytes_of_files}
@@ -30,6 +32,7 @@ use Rattle.switch_run.specs.MakingSteps.{AreMade, AreNumbersOf, IsRan, ToWrite}
 use Rattle.outside.specs.WholeFiles.{NamedBytes}
 use Rattle.job_files.specs.FileSteps.{files_before}
 use Rattle.job_files.specs.OutputFiles.{files_from, files_in_order, files_of, journal_files, packets_files, packets_place, report_name, Texts}
+use Rattle.job_files.proofs.Holding.{firm_is_no_run, gen_is_no_run}
 use Rattle.switch_run.specs.Switched.{AreTexts, IsRunOf, IsSwitched, nothing_wanted, out_lines_under, report_under, texts_under, wanted_by}
 
 -- the packets file stands after the others
@@ -131,20 +134,47 @@ module _ (r : RunWords) (table : List ℕ) (captures : List (List ℕ)) (it : En
 
 -- A job that is no `run` writes the summary of its run alone: the texts of the outputs and the report are those of the run, and
 -- are not written.
-pub summary_made : (scheduler : Scheduler) (settings : Settings) (table : List ℕ) (captures : List (List ℕ)) (numbers : Summary) (job : JobWords)
-    (written : ToWrite) → AreNumbersOf scheduler settings table captures numbers → ((r : RunWords) → job ≡ run r → ⊥)
-    → ((texts : Texts) → IsSwitched scheduler settings nothing_wanted table captures texts → AreTexts job table captures texts)
-    → ((texts : Texts) → written.files ≡ files_of job texts) → written.summary ≡ lines_text (summary_lines numbers) → AreMade job table captures written
-summary_made scheduler settings table captures numbers job written of no_run made files_are summary_is =
+pub record IsAlone (job : JobWords) : Type 0 where
+  pub scheduler : Scheduler
+  pub settings : Settings
+  pub no_run : (r : RunWords) → job ≡ run r → ⊥
+  pub texts : (table : List ℕ) (captures : List (List ℕ)) (texts : Texts) → IsSwitched scheduler settings nothing_wanted table captures texts
+      → AreTexts job table captures texts
+  pub files : (texts : Texts) → files_of job texts ≡ []
+
+abbrev pub gen_alone : (g : GenJob) → IsAlone (gen g)
+gen_alone g = record {
+  scheduler = decision_named g.scheduler;
+  settings = g.settings;
+  no_run = gen_is_no_run g;
+  texts = λ table captures texts is. is;
+  files = λ texts. refl;
+}
+
+abbrev pub firm_alone : (f : FirmWords) → IsAlone (firm f)
+firm_alone f = record {
+  scheduler = firm_decision;
+  settings = f.settings;
+  no_run = firm_is_no_run f;
+  texts = λ table captures texts is. is;
+  files = λ texts. refl;
+}
+
+pub summary_made : (job : JobWords) (alone : IsAlone job) (table : List ℕ) (captures : List (List ℕ)) (numbers : Summary) (written : ToWrite)
+    → AreNumbersOf alone.scheduler alone.settings table captures numbers → written.files ≡ [] → written.summary ≡ lines_text (summary_lines numbers)
+    → AreMade job table captures written
+summary_made job alone table captures numbers written of no_files summary_is =
+    let scheduler = alone.scheduler in
     let texts = texts_under scheduler nothing_wanted of.plan of.ran.slots in
-    let ran : IsRunOf scheduler settings table captures of.plan of.ran.slots = record { planned = of.planned; ends = of.ran.ends } in
+    let ran : IsRunOf scheduler alone.settings table captures of.plan of.ran.slots = record { planned = of.planned; ends = of.ran.ends } in
     record {
       texts = texts;
-      outcome = made texts (record { plan = of.plan; slots = of.ran.slots; run = ran; are = refl; small = tt; packets_small = λ short. tt });
+      outcome = alone.texts table captures texts
+          (record { plan = of.plan; slots = of.ran.slots; run = ran; are = refl; small = tt; packets_small = λ short. tt });
       count = length-map-range_with_len (λ j. capture_text of.plan.nano of.plan.link (messages_under scheduler of.plan j of.ran.slots)) 0 (ports_of of.plan)
           ∙ sym (length-map of.plan.cards (λ card. card.bytes)) ∙ ap length of.planned.planned.kept;
-      outputs_are = λ words is. absurd (no_run words is);
-      before = λ words is. absurd (no_run words is);
-      files_are = files_are texts;
+      outputs_are = λ words is. absurd (alone.no_run words is);
+      before = λ words is. absurd (alone.no_run words is);
+      files_are = no_files ∙ sym (alone.files texts);
       summary_is = summary_is ∙ ap (λ (s : Summary). lines_text (summary_lines s)) of.ran.are;
     }

@@ -4,15 +4,10 @@ use Rattle.std.proofs.Common.{arith, length-append}
 use Rattle.std.specs.Prelude.{is_some, if◌then◌else◌, option_map}
 use Rattle.outside.specs.Contents.{Contents, append_err, append_out}
 use Rattle.outside.specs.Faults.{Place, ReadOf, ToOut, ToErr, NeverFall}
-use Rattle.outside.specs.WholeFiles.{NamedBytes}
-use Rattle.outside.proofs.Counting.{NeverFall-refl, Rose-wider, le-Rose}
+use Rattle.outside.proofs.Counting.{CallsAmong, Rose-wider, first_calls, le-Rose}
 use Rattle.outside.proofs.Effects.{err_none}
 use Rattle.outside.proofs.Putting.{StopsAt-wider}
-use Rattle.eslip_rounds.specs.Schedulers.{Scheduler}
 use Rattle.named_schedulers.specs.Named.{decision_named}
-use Rattle.job_files.specs.Checks.{MeansCheck}
-use Rattle.job_files.specs.declared.check_ending.CheckEnding.{CheckEnding}
-use Rattle.job_files.specs.declared.check_ending.CheckEnding.TheVariants as check_ending
 use Rattle.switch_words.specs.Reading.{JobWords, run, gen, check, firm, RunWords}
 use Rattle.job_files.specs.Jobs.{ReadWords, reads_of, terms_in, input_name}
 use Rattle.job_files.specs.OutputFiles.{Texts, files_from, files_of, journal_files, packets_files, packets_place, put_files, put_texts, report_name, run_files}
@@ -20,7 +15,7 @@ use Rattle.job_files.specs.Inputs.{AreInputs}
 use Rattle.job_files.specs.LineParts.{GivesLine}
 use Rattle.job_files.specs.ErrorLines.{line_of}
 use Rattle.job_files.specs.RefusalLines.{memory_line}
-use Rattle.switch_run.specs.Endings.{Command, IsDone, IsMade, IsStopped, IsWriteFault, Means, Stops, StopsAtFile, StopsWriting}
+use Rattle.switch_run.specs.Endings.{Command, IsDone, IsMade, IsStopped, Means, Stops, StopsAtFile, StopsWriting}
 use Rattle.switch_run.specs.MakingSteps.{AreMade, AreToWrite, IsEndOf, StopsPlan, StopsTexts, ToWrite}
 use Rattle.switch_run.specs.Switched.{wanted_by}
 use Rattle.job_files.specs.FileSteps.{StopsPutting, StopsReading, files_before}
@@ -30,110 +25,97 @@ use Rattle.job_files.specs.declared.ending.Ending.{Ending}
 use Rattle.job_files.specs.declared.ending.Ending.TheVariants.{Done, Usage, ReadFault, TooLong, Refused, JournalTooLong, PacketsTooLong, OutOfMemory}
 use Rattle.job_files.specs.declared.ending.Ending.TheVariants.{WriteFault, Checked}
 use Rattle.job_files.proofs.Holding.{holds_seen, length-files_from}
+use Rattle.job_files.proofs.Later.{check_wider}
 
-module _ (job : JobWords) (texts : Texts) (a b c d : Place → ℕ) (old seen : Option Contents) (start : NeverFall a b) (end : NeverFall c d) where
-  StopsAtFile-wider : (place : ℕ) → StopsAtFile job texts place old b c seen → StopsAtFile job texts place old a d seen
-  StopsAtFile-wider place s = record { within = s.within; stops = StopsAt-wider _ a b c d _ seen start end s.stops }
+module _ (job : JobWords) (texts : Texts) (was now : Place → ℕ) (some : CallsAmong was now) (old seen : Option Contents) where
+  StopsAtFile-wider : (place : ℕ) → StopsAtFile job texts place old some.from some.to seen → StopsAtFile job texts place old was now seen
+  StopsAtFile-wider place s = record { within = s.within; stops = StopsAt-wider _ was now some _ seen s.stops }
 
-  StopsWriting-wider : (written : Written) → StopsWriting job texts written old b c seen → StopsWriting job texts written old a d seen
+  pub StopsWriting-wider : (written : Written) → StopsWriting job texts written old some.from some.to seen → StopsWriting job texts written old was now seen
   StopsWriting-wider (Output port) s = (s.0, StopsAtFile-wider port s.1)
   StopsWriting-wider Report s = StopsAtFile-wider (length texts.outputs) s
   StopsWriting-wider Journal s = (s.0, StopsAtFile-wider (length texts.outputs + 1) s.1)
   StopsWriting-wider Packets s = StopsAtFile-wider (packets_place (length texts.outputs) (is_some texts.journal)) s
-  StopsWriting-wider StandardOutput s = record { rose = Rose-wider a b c d ToOut start end s.rose; given = s.given; new_is = s.new_is }
+  StopsWriting-wider StandardOutput s = record { rose = Rose-wider was now some ToOut s.rose; given = s.given; new_is = s.new_is }
 
--- how a check ended within a span of calls is how it ended within a longer one
-MeansCheck-wider : (scheduler : Scheduler) (name : List ℕ) (old new : Option Contents) (a b c d : Place → ℕ) (ending : CheckEnding)
-    → NeverFall a b → NeverFall c d
-    → MeansCheck scheduler name old new b c ending → MeansCheck scheduler name old new a d ending
-MeansCheck-wider scheduler name old new a b c d check_ending.Yes start end m = m
-MeansCheck-wider scheduler name old new a b c d (check_ending.No slot reason) start end m = m
-MeansCheck-wider scheduler name old new a b c d (check_ending.Bad at) start end m = m
-MeansCheck-wider scheduler name old new a b c d check_ending.TooLong start end m = m
-MeansCheck-wider scheduler name old new a b c d check_ending.ReadFault start end m = (Rose-wider a b c d (ReadOf name) start end m.0, m.1)
-MeansCheck-wider scheduler name old new a b c d check_ending.OutOfMemory start end m = m
-MeansCheck-wider scheduler name old new a b c d check_ending.OutFault start end m = (m.0, m.1, m.2, Rose-wider a b c d ToOut start end m.3, m.4)
-
--- why a job stopped within a span of calls is why it stopped within a longer one
-Stops-wider : (job : JobWords) (old : Option Contents) (a b c d : Place → ℕ) (seen : Option Contents) (ending : Ending) → NeverFall a b → NeverFall c d
-    → Stops job old b c seen ending → Stops job old a d seen ending
-Stops-wider job old a b c d seen Done start end stops = stops
-Stops-wider job old a b c d seen Usage start end stops = stops
-Stops-wider job old a b c d seen (ReadFault input) start end stops = (
+-- why a job stopped in some of the calls is why it stopped in all of them
+Stops-wider : (job : JobWords) (old : Option Contents) (was now : Place → ℕ) (some : CallsAmong was now) (seen : Option Contents) (ending : Ending)
+    → Stops job old some.from some.to seen ending → Stops job old was now seen ending
+Stops-wider job old was now some seen Done stops = stops
+Stops-wider job old was now some seen Usage stops = stops
+Stops-wider job old was now some seen (ReadFault input) stops = (
   record {
     words = stops.0.words;
     reads = stops.0.reads;
     known = stops.0.known;
     earlier = stops.0.earlier;
-    rose = Rose-wider a b c d (ReadOf (input_name stops.0.words input)) start end stops.0.rose;
+    rose = Rose-wider was now some (ReadOf (input_name stops.0.words input)) stops.0.rose;
   },
   stops.1,
 )
-Stops-wider job old a b c d seen (TooLong input) start end stops = stops
-Stops-wider job old a b c d seen (Refused fault) start end stops = stops
-Stops-wider job old a b c d seen (JournalTooLong size) start end stops = stops
-Stops-wider job old a b c d seen (PacketsTooLong size) start end stops = stops
-Stops-wider job old a b c d seen OutOfMemory start end stops = stops
-Stops-wider job old a b c d seen (WriteFault written) start end stops =
-    record { texts = stops.texts; made = stops.made; stops = StopsWriting-wider job stops.texts a b c d old seen start end written stops.stops }
-Stops-wider job old a b c d seen (Checked ending) start end stops =
+Stops-wider job old was now some seen (TooLong input) stops = stops
+Stops-wider job old was now some seen (Refused fault) stops = stops
+Stops-wider job old was now some seen (JournalTooLong size) stops = stops
+Stops-wider job old was now some seen (PacketsTooLong size) stops = stops
+Stops-wider job old was now some seen OutOfMemory stops = stops
+Stops-wider job old was now some seen (WriteFault written) stops =
+    record { texts = stops.texts; made = stops.made; stops = StopsWriting-wider job stops.texts was now some old seen written stops.stops }
+Stops-wider job old was now some seen (Checked ending) stops =
     record {
       words = stops.words;
       is_check = stops.is_check;
-      means = MeansCheck-wider (decision_named stops.words.scheduler) stops.words.file old seen a b c d ending start end stops.means;
+      means = check_wider (decision_named stops.words.scheduler) stops.words.file old seen was now some ending stops.means;
     }
 
 -- a job whose files were not read
-pub reading_stops : (job : JobWords) (r : ReadWords) (old seen : Option Contents) (was now : Place → ℕ) (ending : Ending) → reads_of job ≡ Some r → seen ≡ old
-    → StopsReading r old was now ending → Stops job old was now seen ending
-reading_stops job r old seen was now Done reads same stops = stops
-reading_stops job r old seen was now Usage reads same stops = absurd stops
-reading_stops job r old seen was now (ReadFault input) reads same stops =
-    (record { words = r; reads = reads; known = stops.0; earlier = stops.1; rose = stops.2 }, same)
-reading_stops job r old seen was now (TooLong input) reads same stops =
-    (record { words = r; reads = reads; known = stops.0; earlier = stops.1; longer = stops.2 }, same)
-reading_stops job r old seen was now (Refused fault) reads same stops = absurd stops
-reading_stops job r old seen was now (JournalTooLong size) reads same stops = absurd stops
-reading_stops job r old seen was now (PacketsTooLong size) reads same stops = absurd stops
-reading_stops job r old seen was now OutOfMemory reads same stops = same
-reading_stops job r old seen was now (WriteFault written) reads same stops = absurd stops
-reading_stops job r old seen was now (Checked ending) reads same stops = absurd stops
+pub reading_stops : (job : JobWords) (r : ReadWords) (old : Option Contents) (was now : Place → ℕ) (ending : Ending) → reads_of job ≡ Some r
+    → StopsReading r old was now ending → Stops job old was now old ending
+reading_stops job r old was now Done reads stops = stops
+reading_stops job r old was now Usage reads stops = absurd stops
+reading_stops job r old was now (ReadFault input) reads stops =
+    (record { words = r; reads = reads; known = stops.0; earlier = stops.1; rose = stops.2 }, refl)
+reading_stops job r old was now (TooLong input) reads stops =
+    (record { words = r; reads = reads; known = stops.0; earlier = stops.1; longer = stops.2 }, refl)
+reading_stops job r old was now (Refused fault) reads stops = absurd stops
+reading_stops job r old was now (JournalTooLong size) reads stops = absurd stops
+reading_stops job r old was now (PacketsTooLong size) reads stops = absurd stops
+reading_stops job r old was now OutOfMemory reads stops = refl
+reading_stops job r old was now (WriteFault written) reads stops = absurd stops
+reading_stops job r old was now (Checked ending) reads stops = absurd stops
 
 -- ---- plans and texts
 
 -- the inputs were refused, or memory ran out
-pub plan_stops : (job : JobWords) (old seen : Option Contents) (was now : Place → ℕ) (table : List ℕ) (captures : List (List ℕ)) (ending : Ending)
-    → seen ≡ old → AreInputs job old table captures
-    → StopsPlan (terms_in job) table captures ending → Stops job old was now seen ending
-plan_stops job old seen was now table captures Done same inputs stops = stops
-plan_stops job old seen was now table captures Usage same inputs stops = stops
-plan_stops job old seen was now table captures (ReadFault input) same inputs stops = absurd stops
-plan_stops job old seen was now table captures (TooLong input) same inputs stops = absurd stops
-plan_stops job old seen was now table captures (Refused fault) same inputs stops =
-    (record { table = table; captures = captures; inputs = inputs; outcome = stops }, same)
-plan_stops job old seen was now table captures (JournalTooLong size) same inputs stops = absurd stops
-plan_stops job old seen was now table captures (PacketsTooLong size) same inputs stops = absurd stops
-plan_stops job old seen was now table captures OutOfMemory same inputs stops = same
-plan_stops job old seen was now table captures (WriteFault written) same inputs stops = absurd stops
-plan_stops job old seen was now table captures (Checked ending) same inputs stops = absurd stops
+pub plan_stops : (job : JobWords) (old : Option Contents) (was now : Place → ℕ) (table : List ℕ) (captures : List (List ℕ)) (ending : Ending)
+    → AreInputs job old table captures → StopsPlan (terms_in job) table captures ending → Stops job old was now old ending
+plan_stops job old was now table captures Done inputs stops = stops
+plan_stops job old was now table captures Usage inputs stops = stops
+plan_stops job old was now table captures (ReadFault input) inputs stops = absurd stops
+plan_stops job old was now table captures (TooLong input) inputs stops = absurd stops
+plan_stops job old was now table captures (Refused fault) inputs stops =
+    (record { table = table; captures = captures; inputs = inputs; outcome = stops }, refl)
+plan_stops job old was now table captures (JournalTooLong size) inputs stops = absurd stops
+plan_stops job old was now table captures (PacketsTooLong size) inputs stops = absurd stops
+plan_stops job old was now table captures OutOfMemory inputs stops = refl
+plan_stops job old was now table captures (WriteFault written) inputs stops = absurd stops
+plan_stops job old was now table captures (Checked ending) inputs stops = absurd stops
 
 -- the texts of a `run` job were not made
-pub texts_stop : (r : RunWords) (old seen : Option Contents) (was now : Place → ℕ) (table : List ℕ) (captures : List (List ℕ)) (ending : Ending) → seen ≡ old
+pub texts_stop : (r : RunWords) (old : Option Contents) (was now : Place → ℕ) (table : List ℕ) (captures : List (List ℕ)) (ending : Ending)
     → AreInputs (run r) old table captures
-    → StopsTexts (decision_named r.scheduler) r.settings (wanted_by r) table captures ending → Stops (run r) old was now seen ending
-texts_stop r old seen was now table captures Done same inputs stops = stops
-texts_stop r old seen was now table captures Usage same inputs stops = stops
-texts_stop r old seen was now table captures (ReadFault input) same inputs stops = absurd stops
-texts_stop r old seen was now table captures (TooLong input) same inputs stops = absurd stops
-texts_stop r old seen was now table captures (Refused fault) same inputs stops =
-    plan_stops (run r) old seen was now table captures (Refused fault) same inputs stops
-texts_stop r old seen was now table captures (JournalTooLong size) same inputs stops =
-    (record { words = r; is_run = refl; wanted = stops.0; table = table; captures = captures; inputs = inputs; longer = stops.1 }, same)
-texts_stop r old seen was now table captures (PacketsTooLong size) same inputs stops =
-    (record { words = r; is_run = refl; wanted = stops.0; table = table; captures = captures; inputs = inputs; longer = stops.1; journal_fits = stops.2 }, same)
-texts_stop r old seen was now table captures OutOfMemory same inputs stops = same
-texts_stop r old seen was now table captures (WriteFault written) same inputs stops = absurd stops
-texts_stop r old seen was now table captures (Checked ending) same inputs stops = absurd stops
+    → StopsTexts (decision_named r.scheduler) r.settings (wanted_by r) table captures ending → Stops (run r) old was now old ending
+texts_stop r old was now table captures Done inputs stops = stops
+texts_stop r old was now table captures Usage inputs stops = stops
+texts_stop r old was now table captures (ReadFault input) inputs stops = absurd stops
+texts_stop r old was now table captures (TooLong input) inputs stops = absurd stops
+texts_stop r old was now table captures (Refused fault) inputs stops = plan_stops (run r) old was now table captures (Refused fault) inputs stops
+texts_stop r old was now table captures (JournalTooLong size) inputs stops =
+    (record { words = r; is_run = refl; wanted = stops.0; table = table; captures = captures; inputs = inputs; longer = stops.1 }, refl)
+texts_stop r old was now table captures (PacketsTooLong size) inputs stops =
+    (record { words = r; is_run = refl; wanted = stops.0; table = table; captures = captures; inputs = inputs; longer = stops.1; journal_fits = stops.2 }, refl)
+texts_stop r old was now table captures OutOfMemory inputs stops = refl
+texts_stop r old was now table captures (WriteFault written) inputs stops = absurd stops
+texts_stop r old was now table captures (Checked ending) inputs stops = absurd stops
 
 -- What a command makes of its job and of its texts
 
@@ -145,8 +127,8 @@ module _ (job : JobWords) (old : Option Contents) (written : ToWrite) (w : AreTo
   few_outputs = let few : length w.captures ≤ 64 = w.few in omega (arith, m.count, few)
 
   -- the texts that were made of the inputs
-  made : IsMade job old m.texts
-  made = record { table = w.table; captures = w.captures; inputs = w.inputs; outcome = m.outcome; count = m.count }
+  pub texts_made : IsMade job old m.texts
+  texts_made = record { table = w.table; captures = w.captures; inputs = w.inputs; outcome = m.outcome; count = m.count }
 
   -- all was written
   pub done : (mid new : Option Contents) → mid ≡ old → new ≡ option_map (λ c. append_out written.summary (put_files written.files c)) mid → IsDone job old new
@@ -156,7 +138,7 @@ module _ (job : JobWords) (old : Option Contents) (written : ToWrite) (w : AreTo
       ∙ ap (λ fs. option_map (λ c. append_out m.texts.summary (put_files fs c)) mid) m.files_are
       ∙ ap (option_map (put_texts job m.texts)) same in
       let few = few_outputs in
-      record { texts = m.texts; made = made; written = all; holds = holds_seen job m.texts old new (omega (arith, few)) all }
+      record { texts = m.texts; made = texts_made; written = all; holds = holds_seen job m.texts old new (omega (arith, few)) all }
 
 length-journal_files : (prefix : List ℕ) (journal : Option (List ℕ)) → length (journal_files prefix journal) ≡ (if is_some journal then 1 else 0)
 length-journal_files prefix None = refl
@@ -210,14 +192,15 @@ few_files job old written w =
     omega (arith, n, k, ap length w.made.files_are)
 
 -- a job that has no files stopped after them
-stops_without_files : (job : JobWords) (outputs before : ℕ) (texts : Texts) (what : Written) (old seen : Option Contents) (was now : Place → ℕ)
-    → files_of job texts ≡ []
-    → StopsPutting outputs before (files_of job texts) texts.summary what old was now seen → StopsWriting job texts what old was now seen
-stops_without_files job outputs before texts (Output port) old seen was now none s = let n = ap length none in absurd (omega (arith, s.1.within, n))
-stops_without_files job outputs before texts Report old seen was now none s = let n = ap length none in absurd (omega (arith, s.within, n))
-stops_without_files job outputs before texts Journal old seen was now none s = let n = ap length none in absurd (omega (arith, s.3.within, n))
-stops_without_files job outputs before texts Packets old seen was now none s = let n = ap length none in absurd (omega (arith, s.within, n))
-stops_without_files job outputs before texts StandardOutput old seen was now none s = record { rose = s.rose; given = s.given; new_is = s.new_is }
+stops_without_files : (job : JobWords) (written : ToWrite) (texts : Texts) (what : Written) (old seen : Option Contents) (was now : Place → ℕ)
+    → StopsPutting written.outputs written.before [] texts.summary what old was now seen → files_of job texts ≡ []
+    → StopsWriting job texts what old was now seen
+stops_without_files job written texts (Output port) old seen was now s none = absurd (omega (arith, s.1.within))
+stops_without_files job written texts Report old seen was now s none = absurd (omega (arith, s.within))
+stops_without_files job written texts Journal old seen was now s none = absurd (omega (arith, s.3.within))
+stops_without_files job written texts Packets old seen was now s none = absurd (omega (arith, s.within))
+stops_without_files job written texts StandardOutput old seen was now s none =
+    record { rose = s.rose; given = s.given; new_is = rw none s.new_is }
 
 -- the file after the report and before the packets file is the journal's
 journal_place : (outputs place : ℕ) (with_journal : Bool) → outputs < place → place < packets_place outputs with_journal
@@ -237,38 +220,18 @@ run_stops_writing r texts Packets old seen was now s = record { within = s.withi
 run_stops_writing r texts StandardOutput old seen was now s = record { rose = s.rose; given = s.given; new_is = s.new_is }
 
 -- a job that stopped at one of its files, or after them
-stops_writing : (job : JobWords) (outputs before : ℕ) (texts : Texts) (what : Written) (old seen : Option Contents) (was now : Place → ℕ)
-    → ((r : RunWords) → job ≡ run r → outputs ≡ length texts.outputs)
-    → ((r : RunWords) → job ≡ run r → before ≡ packets_place (length texts.outputs) (is_some texts.journal))
-    → StopsPutting outputs before (files_of job texts) texts.summary what old was now seen → StopsWriting job texts what old was now seen
-stops_writing (run r) outputs before texts what old seen was now count placed s =
-    run_stops_writing r texts what old seen was now
-    (subst (λ (n : ℕ). StopsPutting (length texts.outputs) n (run_files r.prefix texts) texts.summary what old was now seen) (placed r refl)
-    (subst (λ (n : ℕ). StopsPutting n before (run_files r.prefix texts) texts.summary what old was now seen) (count r refl) s))
-stops_writing (gen g) outputs before texts what old seen was now count placed s =
-    stops_without_files (gen g) outputs before texts what old seen was now refl s
-stops_writing (check c) outputs before texts what old seen was now count placed s =
-    stops_without_files (check c) outputs before texts what old seen was now refl s
-stops_writing (firm f) outputs before texts what old seen was now count placed s =
-    stops_without_files (firm f) outputs before texts what old seen was now refl s
-
--- a call on what is written was refused
-pub write_fault : (job : JobWords) (old mid new : Option Contents) (written : ToWrite) (w : AreToWrite job old written) (was b now : Place → ℕ) (what : Written)
-    → mid ≡ old → NeverFall was b → StopsPutting written.outputs written.before written.files written.summary what mid b now new
-    → IsWriteFault job old was now new what
-write_fault job old mid new written w was b now what same kept stops =
-    let texts = w.made.texts in
-    let outputs = written.outputs in
-    let before = written.before in
-    let by_files = subst (λ (fs : List NamedBytes). StopsPutting outputs before fs written.summary what mid b now new) w.made.files_are stops in
-    let by_texts = subst (λ (text : List ℕ). StopsPutting outputs before (files_of job texts) text what mid b now new) w.made.summary_is by_files in
-    let from_old = subst (λ (o : Option Contents). StopsPutting outputs before (files_of job texts) texts.summary what o b now new) same by_texts in
-    record {
-      texts = texts;
-      made = made job old written w;
-      stops = StopsWriting-wider job texts was b now now old new kept (NeverFall-refl now) what
-          (stops_writing job outputs before texts what old new b now w.made.outputs_are w.made.before from_old);
-    }
+pub stops_writing : (job : JobWords) (old : Option Contents) (written : ToWrite) (w : AreToWrite job old written) (what : Written) (new : Option Contents)
+    (was now : Place → ℕ)
+    → StopsPutting written.outputs written.before written.files written.summary what old was now new → StopsWriting job w.made.texts what old was now new
+stops_writing (run r) old written w what new was now s =
+    run_stops_writing r w.made.texts what old new was now
+    (rw (w.made.outputs_are r refl, w.made.before r refl, w.made.files_are, w.made.summary_is) at s)
+stops_writing (gen g) old written w what new was now s =
+    stops_without_files (gen g) written w.made.texts what old new was now (rw (w.made.files_are, w.made.summary_is) at s) refl
+stops_writing (check c) old written w what new was now s =
+    stops_without_files (check c) written w.made.texts what old new was now (rw (w.made.files_are, w.made.summary_is) at s) refl
+stops_writing (firm f) old written w what new was now s =
+    stops_without_files (firm f) written w.made.texts what old new was now (rw (w.made.files_are, w.made.summary_is) at s) refl
 
 -- a job that stopped, and whose line was printed
 stopped : (c : Command) (ending : Ending) → IsStopped c ending → Means c ending
@@ -284,7 +247,7 @@ stopped c (WriteFault written) s = s
 stopped c (Checked ending) s = s
 
 -- a line that was given after calls that made no count fall
-GivesLine-since : (text : List ℕ) (old new : Option Contents) (was mid now : ℕ) → was ≤ mid → GivesLine text old new mid now
+pub GivesLine-since : (text : List ℕ) (old new : Option Contents) (was mid now : ℕ) → was ≤ mid → GivesLine text old new mid now
     → GivesLine text old new was now
 GivesLine-since text old new was mid now kept line = record {
   part = line.part;
@@ -305,15 +268,10 @@ nothing_given old new was now line = line.given ∙ ap (λ part. option_map (app
 
 -- a job that ended, and whose line was printed
 pub ended : (c : Command) (job : JobWords) (seen : Option Contents) (mid : Place → ℕ) (ending : Ending) → c.job ≡ Some job
-    → NeverFall c.was mid → NeverFall mid c.now → IsEndOf job c.old c.was mid seen ending
-    → GivesLine (line_of job ending) seen c.new (mid ToErr) (c.now ToErr) → Means c ending
-ended c job seen mid Done words start end is line =
-    (job, words, subst (λ (o : Option Contents). IsDone job c.old o) (sym (nothing_given seen c.new (mid ToErr) (c.now ToErr) line)) is)
-ended c job seen mid ending words start end is line =
-    stopped c ending (record {
-      job = job;
-      seen = seen;
-      words = words;
-      stops = Stops-wider job c.old c.was c.was mid c.now seen ending (NeverFall-refl c.was) end is;
-      line = GivesLine-since (line_of job ending) seen c.new (c.was ToErr) (mid ToErr) (c.now ToErr) (start ToErr) line;
-    })
+    → NeverFall mid c.now → IsEndOf job c.old c.was mid seen ending
+    → GivesLine (line_of job ending) seen c.new (c.was ToErr) (c.now ToErr) → Means c ending
+ended c job seen mid Done words kept is line =
+    (job, words, subst (λ (o : Option Contents). IsDone job c.old o) (sym (nothing_given seen c.new (c.was ToErr) (c.now ToErr) line)) is)
+ended c job seen mid ending words kept is line =
+    stopped c ending
+    (record { job = job; seen = seen; words = words; stops = Stops-wider job c.old c.was c.now (first_calls c.was mid c.now kept) seen ending is; line = line })

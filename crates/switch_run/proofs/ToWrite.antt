@@ -5,7 +5,7 @@ use Rattle.std.proofs.lemmas.List.{length-map}
 use Rattle.rotating_pick.specs.declared.limits.TheConstants.{MAX_PORTS}
 use Rattle.outside.specs.Contents.{Contents, append_out}
 use Rattle.outside.specs.Faults.{Place}
-use Rattle.outside.proofs.Counting.{NeverFall-refl, NoneRose-refl}
+use Rattle.outside.proofs.Counting.{NeverFall-refl, NoneRose-refl, last_calls}
 use Rattle.switch_words.specs.declared.job.GenJob.{GenJob}
 use Rattle.switch_words.specs.Reading.{JobWords, gen}
 use Rattle.job_files.specs.FileSteps.{StopsPutting, all_shown, pieced}
@@ -19,7 +19,7 @@ use Rattle.job_files.specs.declared.output_files.JobTexts.{JobTexts}
 use Rattle.switch_run.specs.declared.packets.PacketPieces.{PacketPieces}
 use Rattle.switch_run.specs.Endings.{IsDone, IsWriteFault, Stops}
 use Rattle.switch_run.specs.MakingSteps.{AreToWrite, IsEndOf, Makes, left_of, to_write}
-use Rattle.switch_run.proofs.Stopping.{done, few_files, write_fault}
+use Rattle.switch_run.proofs.Stopping.{StopsWriting-wider, done, few_files, stops_writing, texts_made}
 
 -- what making the texts of a `gen` job answers, which reads nothing
 pub gen_makes : (g : GenJob) (old : Option Contents) (counts : Place → ℕ) (made : Result (JobTexts PacketPieces) Ending)
@@ -71,4 +71,14 @@ module _ (job : JobWords) (old mid new : Option Contents) (was between now : Pla
   pub made_write_fault : (what : Written)
       → StopsPutting texts.outputs (length texts.files.items) (all_shown left_of texts) (string_bytes texts.summary) what mid between now new
       → IsWriteFault job old was now new what
-  made_write_fault what stops = write_fault job old mid new (to_write texts) m.texts was between now what m.new_is m.never_fall stops
+  made_write_fault what stops =
+      let w = m.texts in
+      let written = to_write texts in
+      let from_old = subst (λ (o : Option Contents). StopsPutting written.outputs written.before written.files written.summary what o between now new) m.new_is
+      stops in
+      record {
+        texts = w.made.texts;
+        made = texts_made job old written w;
+        stops = StopsWriting-wider job w.made.texts was now (last_calls was between now m.never_fall) old new what
+            (stops_writing job old written w what new between now from_old);
+      }

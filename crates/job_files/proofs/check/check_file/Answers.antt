@@ -1,9 +1,10 @@
 use Rattle.std.proofs.Common.{◌≡◌, ◌∙◌, Ok, sym, ap, inl, inr}
 use Rattle.named_schedulers.specs.Named.{decision_named}
+use Rattle.outside.proofs.Counting.{last_calls}
 use Rattle.journal_check.specs.declared.verdict.Verdict.TheVariants as verdict
 use Rattle.journal_check.specs.Verdicts.{answer_under}
 use Rattle.job_files.specs.Checks.{IsAnswered}
-use Rattle.job_files.proofs.Later.{held_check, later_check, is_answered}
+use Rattle.job_files.proofs.Later.{check_wider, held_check, is_answered}
 use Rattle.job_files.proofs.check.check_file.Goals as goal
 
 pub returns-in-Err-clause-no_fault : goal.returns-in-Err-clause-no_fault
@@ -33,5 +34,6 @@ returns-in-Ok-Yes-clause-meaning g c d =
     (c.in-Ok.ensures.bytes d) c.in-Ok.ensures.fits (ap (answer_under s) (sym bytes) ∙ answer) in
     held_check s name (see c.args.files.now) (see c.read_journal.new.files) (counts c.args.files.now) (counts c.tell_yes.new.files)
     (c.in-Ok.ensures.seen d) c.tell_yes.result (see c.tell_yes.new.files)
-    (later_check s name (see c.read_journal.new.files) (counts c.args.files.now) (counts c.read_journal.new.files) (counts c.tell_yes.new.files)
-    c.in-Ok.ensures.never_fall c.tell_yes.result (see c.tell_yes.new.files) (c.tell_yes.ensures.meaning s d lawful))
+    (check_wider s name (see c.read_journal.new.files) (see c.tell_yes.new.files) (counts c.args.files.now) (counts c.tell_yes.new.files)
+    (last_calls (counts c.args.files.now) (counts c.read_journal.new.files) (counts c.tell_yes.new.files) c.in-Ok.ensures.never_fall)
+    c.tell_yes.result (c.tell_yes.ensures.meaning s d lawful))

@@ -42,7 +42,7 @@ loop-port-preserved g c =
           (IfSome-Stays (see d c.loop-port.files) (see d c.read_input.new.files) (EarlierFit words (Capture c.loop-port.port))
           (c.in_ok-capture.ensures.seen d) (c.loop-port.invariant.earlier d))
           (c.in_ok-capture.ensures.bytes d) c.in_ok-capture.ensures.fits;
-      read = λ d. rw pushed (captures_more words.long words.inputs (see d c.read_input.new.files) c.loop-port.port _ c.in_ok-capture.capture.items within
+      read = λ d. rw pushed (captures_more words (see d c.read_input.new.files) c.loop-port.port _ c.in_ok-capture.capture.items within
           (CapturesRead-Stays words.long _ (see d c.loop-port.files) (see d c.read_input.new.files) _ (c.in_ok-capture.ensures.seen d)
           (c.loop-port.invariant.read d))
           (c.in_ok-capture.ensures.bytes d) c.in_ok-capture.ensures.fits);

@@ -1,7 +1,6 @@
 use Rattle.std.specs.Prelude.{string_bytes}
 use Rattle.outside.specs.WholeFiles.{NamedBytes}
-use Rattle.std.proofs.Common.{refl}
-use Rattle.job_files.proofs.Putting.{puts_of, stops_alone}
+use Rattle.job_files.proofs.Putting.{stops_alone}
 use Rattle.job_files.proofs.output_files.put_packets.Goals as goal
 
 pub returns-in-Some-clause-err : goal.returns-in-Some-clause-err
@@ -13,4 +12,4 @@ returns-in-Some-clause-err g c d =
     let now = c.put_pieces.new.files in
     rw c.in-Some.is
     (stops_alone c.put_pieces.result file (counts was) (counts now) (see was) (see now)
-    (puts_of c.put_pieces.result file _ _ (counts was) (counts now) (see was) (see now) c.as_str.ensures.value refl (c.put_pieces.ensures.seen d)))
+    (rw c.as_str.ensures.value at (c.put_pieces.ensures.seen d)))

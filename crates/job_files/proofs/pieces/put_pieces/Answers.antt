@@ -6,8 +6,8 @@ pub returns-clause-seen : goal.returns-clause-seen
 returns-clause-seen g c d =
     let counts = g.F.Files.faults in
     begun_put c.append_pieces.result (record { name = c.args.name.now; bytes = g.P.Pieces.left c.args.pieces.now }) (counts c.args.files.now)
-    (counts c.begin.new.self) (counts c.append_pieces.new.files) _ _ _
-    c.in_ok-begin.ensures.never_fall (c.in_ok-begin.ensures.seen d) (c.append_pieces.ensures.seen d)
+    (counts c.begin.new.self) (counts c.append_pieces.new.files) _ _
+    c.in_ok-begin.ensures.never_fall (rw (c.in_ok-begin.ensures.seen d) at (c.append_pieces.ensures.seen d))
 
 pub returns-clause-own : goal.returns-clause-own
 returns-clause-own g c named d e alike =

@@ -6,8 +6,7 @@ pub returns-clause-seen : goal.returns-clause-seen
 returns-clause-seen g c d =
     let counts = g.F.Files.faults in
     begun_put c.append_all.result (record { name = c.args.name.now; bytes = c.args.bytes.now }) (counts c.args.files.now) (counts c.begin.new.self)
-    (counts c.append_all.new.files) _ _ _
-    c.in_ok-begin.ensures.never_fall (c.in_ok-begin.ensures.seen d) (c.append_all.ensures.seen d)
+    (counts c.append_all.new.files) _ _ c.in_ok-begin.ensures.never_fall (rw (c.in_ok-begin.ensures.seen d) at (c.append_all.ensures.seen d))
 
 pub returns-clause-own : goal.returns-clause-own
 returns-clause-own g c named d e alike =

@@ -1,15 +1,13 @@
 use Rattle.std.proofs.Common.{Some, arith, refl, string_bytes}
 use Rattle.std.proofs.lemmas.List.{length-map}
-use Rattle.firm_rounds.specs.Decisions.{firm_decision}
 use Rattle.switch_plan.specs.ReadingSteps.{bytes_of_files}
 use Rattle.switch_words.specs.Reading.{firm, firm_words}
 use Rattle.job_files.specs.Jobs.{firm_reads}
-use Rattle.job_files.proofs.Holding.{firm_is_no_run}
 use Rattle.job_files.proofs.InputFiles.{read_of_size}
 use Rattle.switch_run.specs.Endings.{is_own}
 use Rattle.switch_run.specs.MakingSteps.{to_write}
 use Rattle.std.proofs.lemmas.Result.{err_from_is_err_and}
-use Rattle.switch_run.proofs.RunTexts.{summary_made}
+use Rattle.switch_run.proofs.RunTexts.{firm_alone, summary_made}
 use Rattle.switch_run.proofs.OwnFiles.{firm_owns}
 use Rattle.switch_run.proofs.Stopping.{plan_stops, reading_stops}
 use Rattle.switch_run.proofs.job_texts.texts_of_firm.Goals as goal
@@ -32,8 +30,7 @@ returns-in_err-inputs-clause-stops g c d =
     let stops = rw c.reads_of_firm.ensures.names at c.in_err-inputs.ensures.stops d in
     let failed = err_from_is_err_and c.from_residual.result c.from_residual.ensures.1 in
     rw (failed.1, failed.2)
-    (reading_stops (firm words) (firm_reads words) seen seen (counts c.args.files.now) (counts c.read_inputs.new.files) c.in_err-inputs.field-0.0 refl refl
-    stops)
+    (reading_stops (firm words) (firm_reads words) seen (counts c.args.files.now) (counts c.read_inputs.new.files) c.in_err-inputs.field-0.0 refl stops)
 
 pub returns-in_err-summary-clause-stops : goal.returns-in_err-summary-clause-stops
 returns-in_err-summary-clause-stops g c d =
@@ -42,7 +39,7 @@ returns-in_err-summary-clause-stops g c d =
     let read = rw c.reads_of_firm.ensures.names at c.in_ok-inputs.ensures.read d in
     let failed = err_from_is_err_and c.from_residual-in_err-summary.result c.from_residual-in_err-summary.ensures.1 in
     rw (failed.1, failed.2)
-    (plan_stops (firm (firm_words c.args.job.now)) seen seen (counts c.args.files.now) (counts c.read_inputs.new.files) _ _ c.in_err-summary.field-0.0 refl read
+    (plan_stops (firm (firm_words c.args.job.now)) seen (counts c.args.files.now) (counts c.read_inputs.new.files) _ _ c.in_err-summary.field-0.0 read
     c.in_err-summary.ensures.stops)
 
 pub returns-clause-made : goal.returns-clause-made
@@ -58,9 +55,8 @@ returns-clause-made g c d =
       captures = files;
       inputs = read;
       few = omega (arith, read.captures_read.count, length-map names string_bytes, c.requires.inputs.most);
-      made = summary_made firm_decision job.settings inputs.table.items files c.in_ok-summary.summary (firm job)
-          (to_write texts) c.in_ok-summary.ensures.ran (firm_is_no_run job) (λ t is. is) (λ t. c.in_ok-summary_alone.ensures.files)
-          c.in_ok-summary_alone.ensures.summary;
+      made = summary_made (firm job) (firm_alone job) inputs.table.items files c.in_ok-summary.summary (to_write texts) c.in_ok-summary.ensures.ran
+          c.in_ok-summary_alone.ensures.files c.in_ok-summary_alone.ensures.summary;
     }
 
 pub returns-in_err-inputs-clause-own : goal.returns-in_err-inputs-clause-own

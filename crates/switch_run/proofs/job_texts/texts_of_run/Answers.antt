@@ -31,8 +31,7 @@ returns-in_err-inputs-clause-stops g c d =
     let stops = rw c.reads_of_run.ensures.names at c.in_err-inputs.ensures.stops d in
     let failed = err_from_is_err_and c.from_residual.result c.from_residual.ensures.1 in
     rw (failed.1, failed.2)
-    (reading_stops (run words) (run_reads words) seen seen (counts c.args.files.now) (counts c.read_inputs.new.files) c.in_err-inputs.field-0.0 refl refl
-    stops)
+    (reading_stops (run words) (run_reads words) seen (counts c.args.files.now) (counts c.read_inputs.new.files) c.in_err-inputs.field-0.0 refl stops)
 
 pub returns-in_err-ran-clause-stops : goal.returns-in_err-ran-clause-stops
 returns-in_err-ran-clause-stops g c d =
@@ -42,7 +41,7 @@ returns-in_err-ran-clause-stops g c d =
     let stops = rw c.wanted_by.ensures at c.in_err-ran.ensures.stops in
     let failed = err_from_is_err_and c.from_residual-in_err-ran.result c.from_residual-in_err-ran.ensures.1 in
     rw (failed.1, failed.2)
-    (texts_stop (run_words c.args.job.now) seen seen (counts c.args.files.now) (counts c.read_inputs.new.files) _ _ c.in_err-ran.field-0.0 refl read stops)
+    (texts_stop (run_words c.args.job.now) seen (counts c.args.files.now) (counts c.read_inputs.new.files) _ _ c.in_err-ran.field-0.0 read stops)
 
 pub returns-clause-made : goal.returns-clause-made
 returns-clause-made g c d =
