@@ -14,7 +14,6 @@ use Rattle.arrival_bounds.specs.Arrivals.{HasWindows, AreHeldFew, IsPairFew}
 use Rattle.arrival_bounds.specs.Waits.{IsUnicastRun, came_under, gone_under, WaitsAtMost, QueueWaits, HoldByLine, HoldsAtMost}
 use Rattle.arrival_bounds.proofs.Delays.{one_queue, gone_soon}
 use Rattle.arrival_bounds.proofs.Buffers.{lines_hold, lines_hold_by_curves}
-use Rattle.arrival_bounds.proofs.UnicastRuns.{matches_unicast}
 use Rattle.arrival_bounds.proofs.Bounded.{counts_are_served}
 use Rattle.arrival_bounds.proofs.Coming.{in_use, in_grows, out_grows}
 use Rattle.arrival_bounds.proofs.Ranges.{range_sum-parts}
@@ -36,9 +35,6 @@ of_third c some = (omega arith, omega arith)
 wide : (a b x y : ℕ) → a ≤ b + x → x ≤ y → a ≤ b + y
 wide a b x y p q = omega arith
 
-wide_both : (a b c d x y m : ℕ) → a ≤ b + x → c ≤ d + y → x + y ≤ m → a + c ≤ b + d + m
-wide_both a b c d x y m p q r = omega arith
-
 module _ (scheduler : Scheduler) (plan : SwitchPlan) (run : IsUnicastRun scheduler plan) where
   abbrev n : ℕ
   n = ports_of plan
@@ -56,15 +52,20 @@ module _ (scheduler : Scheduler) (plan : SwitchPlan) (run : IsUnicastRun schedul
   out_gone = for_output n LEVELS (gone_under scheduler plan)
 
   pub served : AreServed n LEVELS (came_under scheduler plan) (gone_under scheduler plan)
-  served = counts_are_served scheduler plan run.scheduling run.good run.rounds (matches_unicast scheduler run.scheduling plan run.good run.unicast)
+  served = counts_are_served scheduler plan run
 
   -- ---- delays
   pub delays_by_pairs : (most : ℕ) → ArePairsShaped plan (2 * most + 1) (most + 2) → WaitsAtMost scheduler plan most
   delays_by_pairs most shaped i j l t i_in j_in l_in =
       let slots = 2 * most + 1 in
       gone_soon n LEVELS most (came_under scheduler plan) (gone_under scheduler plan) served
-      (λ x y m u x_in y_in m_in some. wide_both _ _ _ _ _ _ (most + 2) (in_grows scheduler plan slots x u) (out_grows scheduler plan slots y u)
-      (shaped x y u x_in y_in (in_use scheduler plan x y m (u + slots) some))) (suc t) i j l t (omega arith) i_in j_in l_in
+      (λ x y m u x_in y_in m_in some.
+      omega (
+        arith,
+        in_grows scheduler plan slots x u,
+        out_grows scheduler plan slots y u,
+        shaped x y u x_in y_in (in_use scheduler plan x y m (u + slots) some),
+      )) (suc t) i j l t (omega arith) i_in j_in l_in
 
   pub delays_by_all : (cells : ℕ) → ArePairsFew plan cells → WaitsAtMost scheduler plan (cells - 2)
   delays_by_all cells few =
@@ -148,29 +149,13 @@ module _ (scheduler : Scheduler) (plan : SwitchPlan) (run : IsUnicastRun schedul
     from : (u : ℕ) → 0 + u ≡ u
     from u = omega arith
 
-    all : (x y o s s' g h c : ℕ) → o ≡ 0 → x ≤ o + s → y ≤ o + s' → s + s' ≤ c → x + y ≤ g + h + (c - 2 + 2)
-    all x y o s s' g h c zero p q r = omega arith
-
     so_far : (t u : ℕ) → in_all i u + out_all j u ≤ in_gone i t + out_gone j t + (cells - 2 + 2)
     so_far t u =
         let inputs = subst (λ v. in_all i v ≤ in_all i 0 + sum_by (arriving_at plan i) (range_with_len 0 u)) (from u) (in_grows scheduler plan u i 0) in
         let outputs = subst (λ v. out_all j v ≤ out_all j 0 + sum_by (arriving_for plan j) (range_with_len 0 u)) (from u) (out_grows scheduler plan u j 0) in
-        all _ _ _ _ _ (in_gone i t) (out_gone j t) cells none inputs outputs (few u)
-
-  -- where at most a cells wait at its input and b for its output, and so few come in so many slots
-  queue_by_held : (i j l most a b : ℕ) → i < n → j < n → l < LEVELS
-      → ((t : ℕ) → in_all i (t + 1) ≤ in_gone i t + a) → ((t : ℕ) → out_all j (t + 1) ≤ out_gone j t + b)
-      → ((t : ℕ) → a + b + (sum_by (arriving_at plan i) (range_with_len t most) + sum_by (arriving_for plan j) (range_with_len t most)) ≤ most + 2)
-      → QueueWaits scheduler plan i j l most
-  queue_by_held i j l most a b i_in j_in l_in p q few =
-      queue_by i j l most i_in j_in l_in
-      (λ t. subst (λ u. in_all i u + out_all j u ≤ in_gone i t + out_gone j t + (most + 2)) (next t most)
-      (add _ _ _ _ _ _ a b _ _ most (p t) (q t) (in_grows scheduler plan most i (t + 1)) (out_grows scheduler plan most j (t + 1)) (few (t + 1)))) where
-        next : (t m : ℕ) → t + 1 + m ≡ t + (m + 1)
-        next t m = omega arith
-
-        add : (c c' g d d' h a b x y m : ℕ) → c ≤ g + a → d ≤ h + b → c' ≤ c + x → d' ≤ d + y → a + b + (x + y) ≤ m + 2 → c' + d' ≤ g + h + (m + 2)
-        add c c' g d d' h a b x y m p q r s few = omega arith
+        let none_in : in_all i 0 ≡ 0 = none in
+        let none_out : out_all j 0 ≡ 0 = none in
+        omega (arith, few u)
 
   pub delays_by_held : (held_in held_out : ℕ → ℕ) (most : ℕ) → HoldByLine scheduler plan held_in held_out → AreHeldFew plan held_in held_out most
       → WaitsAtMost scheduler plan most
@@ -179,9 +164,20 @@ module _ (scheduler : Scheduler) (plan : SwitchPlan) (run : IsUnicastRun schedul
         | inr none ↦ least _ (gone_under scheduler plan i j l (t + most)) none
         | inl some ↦
             let held = come_most scheduler run.scheduling plan run.good run.unicast held_in held_out holds in
-            queue_by_held i j l most (held_in i) (held_out j) i_in j_in l_in (λ u. held.inputs i u i_in) (λ u. held.outputs j u j_in)
-            (λ u. few i j u i_in j_in (in_use scheduler plan i j l t some)) t
+            queue_by i j l most i_in j_in l_in
+            (λ u. subst (λ v. in_all i v + out_all j v ≤ in_gone i u + out_gone j u + (most + 2)) (next u most)
+            (omega (
+              arith,
+              held.inputs i u i_in,
+              held.outputs j u j_in,
+              in_grows scheduler plan most i (u + 1),
+              out_grows scheduler plan most j (u + 1),
+              few i j (u + 1) i_in j_in (in_use scheduler plan i j l t some),
+            ))) t
       ] where
+        next : (t m : ℕ) → t + 1 + m ≡ t + (m + 1)
+        next t m = omega arith
+
         least : (x y : ℕ) → x ≤ 0 → x ≤ y
         least x y none = omega arith
 

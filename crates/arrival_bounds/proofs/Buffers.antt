@@ -20,11 +20,6 @@ turned_maximal n levels came gone maximal = record {
   other (inl a) = inr a
   other (inr b) = inl b
 
--- the numbers of the last step: of the input and the output at its start and end
-too_few : (w r k x a a' b b' c c' d d' : ℕ) → a + b + w ≤ a' + b' → a' + r < c' → c' ≤ c + r → c ≤ a + r → b' + 1 ≤ d' → d' ≤ d + x → d ≤ b + k
-    → r + k + x ≤ w + 1 → ⊥
-too_few w r k x a a' b b' c c' d d' taken late window held less window' held' few = omega arith
-
 reach : (x w : ℕ) → x + 1 ≤ x + 1 - w + w
 reach x w = omega arith
 
@@ -50,7 +45,7 @@ up_one x = omega arith
 still : (a b c d : ℕ) → a ≤ b → b < c → c ≤ d → a < d
 still a b c d x y z = omega arith
 
-still_one : (a b c : ℕ) → a < b → b ≤ c → a + 1 ≤ c
+still_one : (a b c : ℕ) → a < b → b ≤ c → a < c
 still_one a b c x y = omega arith
 
 within : (v b w x : ℕ) → b + w ≡ x → v < b + w → v + 1 ≤ x
@@ -62,7 +57,7 @@ onward b v from = omega arith
 starts : (b w x : ℕ) → b + w ≡ x → 0 < w → b + 1 ≤ x
 starts b w x is pos = omega arith
 
-some_of : (x y : ℕ) → x + 1 ≤ y → 0 < y
+some_of : (x y : ℕ) → x < y → 0 < y
 some_of x y p = omega arith
 
 positive : (f : ℕ → ℕ) (g e : ℕ) → f 0 ≡ 0 → g < f e → 0 < e
@@ -87,7 +82,7 @@ module _ (n levels w : ℕ) (came gone : Counts) (maximal : AreServed n levels c
         let up = line-le n levels came came i (t + 1) (e + w) (λ y m y_in m_in. maximal.comes i y m (t + 1) (e + w) (reach t w)) in
         let old = queue_less n levels gone came i t e (older (of_input n levels gone i t) r (of_input n levels came i (t + 1))
         (of_input n levels came i (e + w)) (of_input n levels came i e) late up (window e)) in
-        waited old.0 old.1 old.2 old.3 old.4 late
+        waited old.output old.level old.output_in old.level_in old.more late
   ] where
     waited : (j l : ℕ) → j < n → l < levels → gone i j l t < came i j l (t + 1 - w) → of_input n levels gone i t + r < of_input n levels came i (t + 1)
         → of_input n levels came i (t + 1) ≤ of_input n levels gone i t + r
@@ -112,9 +107,12 @@ module _ (n levels w : ℕ) (came gone : Counts) (maximal : AreServed n levels c
         let here = still_one (gone i j l t) (came i j l (b + 1)) (came i j l t) left' (maximal.comes i j l (b + 1) t (starts b w t at.0 some)) in
         let now = some_of (gone i j l t) (came i j l t) here in
         let win' : B' t ≤ B' (b + 1) + x j = subst (λ v. B' v ≤ B' (b + 1) + x j) at.4 (beside j l t j_in l_in now (b + 1)) in
-        let less = line-less n levels (turned gone) (turned came) j i l t t i_in l_in here (λ x m x_in m_in. maximal.few x j m t x_in j_in) in
-        absurd (too_few w r (k j) (x j) (A b) (A t) (B b) (B t) (A' (b + 1)) (A' (t + 1)) (B' (b + 1)) (B' t) taken' late win (held b at.1)
-        less win' (held' j b j_in at.1) (used j l t j_in l_in now))
+        let less = line-less n levels (turned gone) (turned came) j t t
+        (record { output = i; level = l; output_in = i_in; level_in = l_in; more = here }) (λ x m x_in m_in. maximal.few x j m t x_in j_in) in
+        let mine = held b at.1 in
+        let other = held' j b j_in at.1 in
+        let few = used j l t j_in l_in now in
+        absurd (omega arith)
 
 -- Each line with a window of its own: at most `k i j` cells come for output j in one slot less than the window of input i, and at
 -- most `m i j` to input i in one slot less than the window of output j.

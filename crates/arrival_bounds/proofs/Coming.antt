@@ -208,13 +208,9 @@ grows f c step zero t = subst (λ u. f u ≤ f t + 0) (past t) (here (f t)) wher
   here : (x : ℕ) → x ≤ x + 0
   here x = omega arith
 grows f c step (suc w) t = subst (λ u. f u ≤ f t + sum_by c (range_with_len t (suc w))) (next t w)
-    (add (f (t + 1 + w)) (f (t + 1)) (f (suc t)) (f t) (c t) (sum_by c (range_with_len (t + 1) w)) (sum_by c (range_with_len t (suc w)))
-    (grows f c step w (t + 1)) (ap f (add-one t)) (step t) (sum_by-cons c t (range_with_len (t + 1) w))) where
+    (omega (arith, grows f c step w (t + 1), ap f (add-one t), step t, sum_by-cons c t (range_with_len (t + 1) w))) where
       next : (x y : ℕ) → x + 1 + y ≡ x + suc y
       next x y = omega arith
-
-      add : (a b b' d e s s' : ℕ) → a ≤ b + s → b ≡ b' → b' ≤ d + e → s' ≡ e + s → a ≤ d + s'
-      add a b b' d e s s' p q r u = omega arith
 
 -- what comes in some slots in a row is no more than what arrives in them
 module _ (scheduler : Scheduler) (plan : SwitchPlan) (slots : ℕ) where

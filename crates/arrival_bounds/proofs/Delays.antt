@@ -33,9 +33,11 @@ module _ (n levels most : ℕ) (came gone : Counts) (maximal : AreServed n level
         let later = maximal.comes i j l (suc r) (t + 1) (omega arith) in
         maximal.takes i j l t i_in j_in l_in (omega arith)) in
         let taken' : A r + B r + (most + 1) ≤ A u + B u = subst (λ v. A r + B r + (most + 1) ≤ A v + B v) at taken in
-        let row = line-less n levels gone came i j l u u j_in l_in (let more = maximal.comes i j l (suc r) u (omega arith) in omega arith)
+        let more = maximal.comes i j l (suc r) u (omega arith) in
+        let row = line-less n levels gone came i u u (record { output = j; level = l; output_in = j_in; level_in = l_in; more = omega arith })
         (λ y m y_in m_in. maximal.few i y m u i_in y_in) in
-        let column = line-less n levels (turned gone) (turned came) j i l u u i_in l_in (let more = maximal.comes i j l (suc r) u (omega arith) in omega arith)
+        let column = line-less n levels (turned gone) (turned came) j u u
+        (record { output = i; level = l; output_in = i_in; level_in = l_in; more = omega arith })
         (λ x m x_in m_in. maximal.few x j m u x_in j_in) in
         absurd (omega arith)
   ]

@@ -7,6 +7,14 @@ use Rattle.std.proofs.lemmas.List.Sums.{sum_by-cons}
 use Rattle.std_lemmas.proofs.Sums.{range_sum-le, range_sum-less}
 use Rattle.arrival_bounds.specs.Counts.{Counts, of_input}
 
+-- some queue of a line has more
+pub record HasMore (n levels : ℕ) (f g : Counts) (i t u : ℕ) : Type 0 where
+  pub output : ℕ
+  pub level : ℕ
+  pub output_in : output < n
+  pub level_in : level < levels
+  pub more : f i output level t < g i output level u
+
 module _ (n levels : ℕ) where
   -- a line with more of each queue has more
   pub line-le : (f g : Counts) (i t u : ℕ) → ((j l : ℕ) → j < n → l < levels → f i j l t ≤ g i j l u) → of_input n levels f i t ≤ of_input n levels g i u
@@ -14,12 +22,18 @@ module _ (n levels : ℕ) where
       (λ j from inside. range_sum-le 0 levels (λ l. f i j l t) (λ l. g i j l u) (λ l above below. le j l (omega arith) (omega arith)))
 
   -- and more by one where one queue has
-  pub line-less : (f g : Counts) (i j l t u : ℕ) → j < n → l < levels → f i j l t + 1 ≤ g i j l u
-      → ((y m : ℕ) → y < n → m < levels → f i y m t ≤ g i y m u) → of_input n levels f i t + 1 ≤ of_input n levels g i u
-  line-less f g i j l t u j_in l_in less le =
+  pub line-less : (f g : Counts) (i t u : ℕ) → HasMore n levels f g i t u → ((y m : ℕ) → y < n → m < levels → f i y m t ≤ g i y m u)
+      → of_input n levels f i t + 1 ≤ of_input n levels g i u
+  line-less f g i t u one le =
+      let j = one.output in
+      let l = one.level in
+      let j_in = one.output_in in
+      let l_in = one.level_in in
+      let more = one.more in
       range_sum-less 0 n (λ y. sum_by (λ m. f i y m t) (range_with_len 0 levels)) (λ y. sum_by (λ m. g i y m u) (range_with_len 0 levels)) j (omega arith)
       (omega arith)
-      (range_sum-less 0 levels (λ m. f i j m t) (λ m. g i j m u) l (omega arith) (omega arith) less (λ m above below. le j m (omega arith) (omega arith)))
+      (range_sum-less 0 levels (λ m. f i j m t) (λ m. g i j m u) l (omega arith) (omega arith) (omega arith)
+      (λ m above below. le j m (omega arith) (omega arith)))
       (λ y from inside. range_sum-le 0 levels (λ m. f i y m t) (λ m. g i y m u) (λ m above below. le y m (omega arith) (omega arith)))
 
 -- of two sums the greater has a greater term
@@ -34,18 +48,13 @@ some_less a (suc n) f g less = elim (cases_lt (f a) (g a)) [
       (later.0, omega arith, later.2)
 ]
 
-pub queue_less : (n levels : ℕ) (f g : Counts) (i t u : ℕ) → of_input n levels f i t < of_input n levels g i u
-    → (j l : ℕ) × (j < n) × (l < levels) × (f i j l t < g i j l u)
+pub queue_less : (n levels : ℕ) (f g : Counts) (i t u : ℕ) → of_input n levels f i t < of_input n levels g i u → HasMore n levels f g i t u
 queue_less n levels f g i t u less =
     let output = some_less 0 n (λ j. sum_by (λ l. f i j l t) (range_with_len 0 levels)) (λ j. sum_by (λ l. g i j l u) (range_with_len 0 levels)) less in
     let level = some_less 0 levels (λ l. f i output.0 l t) (λ l. g i output.0 l u) output.2 in
-    (output.0, level.0, omega (arith, output.1), omega (arith, level.1), level.2)
+    record { output = output.0; level = level.0; output_in = omega (arith, output.1); level_in = omega (arith, level.1); more = level.2 }
 
 -- two counts of which each slot raises one
-one_more : (x y c x' y' x'' y'' : ℕ) → x + y + c ≤ x' + y' → x' ≤ x'' → y' ≤ y'' → (x' < x'') ⊎ (y' < y'') → x + y + suc c ≤ x'' + y''
-one_more x y c x' y' x'' y'' before right left (inl one) = omega arith
-one_more x y c x' y' x'' y'' before right left (inr one) = omega arith
-
 none_more : (x y : ℕ) → x + y + 0 ≤ x + y
 none_more x y = omega arith
 
@@ -56,10 +65,11 @@ climb a b a_rises b_rises first zero each = subst (λ v. a first + b first + 0 �
   past t = omega arith
 climb a b a_rises b_rises first (suc count) each =
     let t = first + count in
+    let before = climb a b a_rises b_rises first count (λ u from below. each u from (later u first count below)) in
+    let a_up = a_rises t in
+    let b_up = b_rises t in
     subst (λ v. a first + b first + suc count ≤ a v + b v) (next first count)
-    (one_more (a first) (b first) count (a t) (b t) (a (t + 1)) (b (t + 1))
-    (climb a b a_rises b_rises first count (λ u from below. each u from (later u first count below))) (a_rises t) (b_rises t)
-    (each t (at first count) (last first count))) where
+    (elim (each t (at first count) (last first count)) [ inl one ↦ omega arith | inr one ↦ omega arith ]) where
       next : (x y : ℕ) → x + y + 1 ≡ x + suc y
       next x y = omega arith
 

@@ -31,8 +31,8 @@ use Rattle.run_laws.specs.Runs.{ports_of, setup_for, card_at, parts_under, posts
 use Rattle.run_laws.proofs.Base.{served-at, queue_in-same, granted_to-same, good-card, within, sound, is-slot, servable, pair-named}
 use Rattle.arrival_bounds.specs.Counts.{Counts, of_input, for_output}
 use Rattle.arrival_bounds.proofs.Lines.{line-less}
-use Rattle.arrival_bounds.specs.Waits.{came_under, gone_under}
-use Rattle.arrival_bounds.proofs.UnicastRuns.{MatchesUnicast}
+use Rattle.arrival_bounds.specs.Waits.{IsUnicastRun, came_under, gone_under}
+use Rattle.arrival_bounds.proofs.UnicastRuns.{MatchesUnicast, matches_unicast}
 
 abbrev turned : Counts → Counts
 turned f = λ i j l t. f j i l t
@@ -131,45 +131,65 @@ module _ (scheduler : Scheduler) (scheduling : IsScheduler scheduler) (plan : Sw
         let same = ap length all in
         absurd (omega arith)
 
-  pub slot_takes : (i j l t : ℕ) → ports_of plan ≤ plan.rounds → MatchesUnicast scheduler plan → i < ports_of plan → j < ports_of plan → l < LEVELS
+module _ (scheduler : Scheduler) (plan : SwitchPlan) (run : IsUnicastRun scheduler plan) where
+  pub slot_takes : (i j l t : ℕ) → i < ports_of plan → j < ports_of plan → l < LEVELS
       → gone scheduler plan i j l (suc t) < came_under scheduler plan i j l (suc t)
       → (gone_at scheduler plan i t < gone_at scheduler plan i (suc t))
       ⊎ (gone_for scheduler plan j t < gone_for scheduler plan j (suc t))
-  slot_takes i j l t enough unicast i_in j_in l_in left = by_output (fed_of (matched_in scheduler plan t) j) refl where
+  slot_takes i j l t i_in j_in l_in left = by_output (fed_of (matched_in scheduler plan t) j) refl where
+    unicast : MatchesUnicast scheduler plan
+    unicast = matches_unicast scheduler run.scheduling plan run.good run.unicast
+
     whole : IsMatch (ports_of plan) (matched_in scheduler plan t)
-    whole = (sound scheduler scheduling plan good t).matches
+    whole = (sound scheduler run.scheduling plan run.good t).matches
 
     row_gains : (k level : ℕ) → Serves (matched_in scheduler plan t) i k level Uni
         → gone_at scheduler plan i t < gone_at scheduler plan i (suc t)
     row_gains k level pair =
         let there = fed_of-lt (matched_in scheduler plan t) k (record { input = i; level = level; kind = Uni }) pair in
-        let count = (sound scheduler scheduling plan good t).matches.count in
-        let less = line-less (ports_of plan) LEVELS (gone scheduler plan) (gone scheduler plan) i k level t (suc t) (omega arith)
-        ((sound scheduler scheduling plan good t).matches.level_in i k level Uni pair)
-        (pair_takes t i k level i_in pair) (λ y m y_in m_in. gone-le scheduler plan i y m t) in
+        let count = (sound scheduler run.scheduling plan run.good t).matches.count in
+        let takes = pair_takes scheduler run.scheduling plan run.good t i k level i_in pair in
+        let less = line-less (ports_of plan) LEVELS (gone scheduler plan) (gone scheduler plan) i t (suc t)
+        (record {
+          output = k;
+          level = level;
+          output_in = omega arith;
+          level_in = (sound scheduler run.scheduling plan run.good t).matches.level_in i k level Uni pair;
+          more = omega arith;
+        })
+        (λ y m y_in m_in. gone-le scheduler plan i y m t) in
         omega arith
 
     column_gains : (x level : ℕ) → Serves (matched_in scheduler plan t) x j level Uni
         → gone_for scheduler plan j t < gone_for scheduler plan j (suc t)
     column_gains x level pair =
-        let inside = (sound scheduler scheduling plan good t).matches.input_in x j level Uni pair in
-        let less = line-less (ports_of plan) LEVELS (turned (gone scheduler plan)) (turned (gone scheduler plan)) j x level t (suc t) inside
-        ((sound scheduler scheduling plan good t).matches.level_in x j level Uni pair)
-        (pair_takes t x j level inside pair) (λ y m y_in m_in. gone-le scheduler plan y j m t) in
+        let inside = (sound scheduler run.scheduling plan run.good t).matches.input_in x j level Uni pair in
+        let takes = pair_takes scheduler run.scheduling plan run.good t x j level inside pair in
+        let less = line-less (ports_of plan) LEVELS (turned (gone scheduler plan)) (turned (gone scheduler plan)) j t (suc t)
+        (record {
+          output = x;
+          level = level;
+          output_in = inside;
+          level_in = (sound scheduler run.scheduling plan run.good t).matches.level_in x j level Uni pair;
+          more = omega arith;
+        })
+        (λ y m y_in m_in. gone-le scheduler plan y j m t) in
         omega arith
 
     by_input : (part : Option Served) → served_of (matched_in scheduler plan t) i ≡ part → fed_of (matched_in scheduler plan t) j ≡ None
         → (gone_at scheduler plan i t < gone_at scheduler plan i (suc t))
         ⊎ (gone_for scheduler plan j t < gone_for scheduler plan j (suc t))
     by_input None e vacant =
-        let card = good-card plan good i i_in in
+        let card = good-card plan run.good i i_in in
         let ports = card.ports in
-        let named = uni-from (card_at plan i) card.good (parts_under scheduler plan i t) t l j l_in (omega arith) (one_waits i j l t i_in left) in
+        let waits = one_waits scheduler run.scheduling plan run.good i j l t i_in left in
+        let named = uni-from (card_at plan i) card.good (parts_under scheduler plan i t) t l j l_in (omega arith) waits in
         let named' : Names (row_of (slot_rows (ports_of plan) (posts_under scheduler plan) t) i) l Uni j =
         subst (λ row. Names row l Uni j) (sym (row_of-slot_rows (ports_of plan) (posts_under scheduler plan) t i i_in)) named in
-        absurd ((maximal t enough).free i j l Uni i_in j_in (served_of-none (ports_of plan) (matched_in scheduler plan t) whole i e) vacant named')
+        let free = (maximal scheduler run.scheduling plan run.good t run.rounds).free in
+        absurd (free i j l Uni i_in j_in (served_of-none (ports_of plan) (matched_in scheduler plan t) whole i e) vacant named')
     by_input (Some part) e vacant =
-        let served = served_of-is (ports_of plan) (matched_in scheduler plan t) (sound scheduler scheduling plan good t).matches i part e in
+        let served = served_of-is (ports_of plan) (matched_in scheduler plan t) (sound scheduler run.scheduling plan run.good t).matches i part e in
         let pair = (served.outputs served.some.0).0 served.some.1 in
         let uni = unicast i served.some.0 part.level t part.kind pair in
         inl (row_gains served.some.0 part.level (Serves-along (matched_in scheduler plan t) i served.some.0 part.level part.level part.kind Uni refl uni pair))
