@@ -54,27 +54,34 @@ one_is card cell (c ∷ v) is = (c, v, refl, head_is cell (cell_named card c.nam
   head_is a b e = cc
 
 -- ---- the queue that a part serves
+-- input i is served this part, and feeds output j
+record IsPair (matched : List (Option Fed)) (i j level : ℕ) (kind : Kind) (part : Served) : Type 0 where
+  pub small : j < 64
+  pub feeds : Serves matched i j level kind
+  pub served : IsServed matched i part
+
 -- a part that serves a unicast queue serves its output alone
-unicast_port : (n : ℕ) (matched : List (Option Fed)) → IsMatch n matched → (i j level : ℕ) → j < 64 → Serves matched i j level Uni
-    → (part : Served) → IsServed matched i part → last_port 64 part.outputs ≡ j
-unicast_port n matched whole i j level small feeds part is =
-    let own = is.only j level Uni feeds in
-    let here : Serves matched i j part.level part.kind = Serves-along matched i j level part.level Uni part.kind own.0 own.1 feeds in
-    last-only 64 part.outputs j small ((is.outputs j).1 here)
-    (λ y member. elim (whole.once i j level Uni y part.level part.kind feeds ((is.outputs y).0 member)) [
+unicast_port : (n : ℕ) (matched : List (Option Fed)) → IsMatch n matched → (i j level : ℕ) (part : Served) → IsPair matched i j level Uni part
+    → last_port 64 part.outputs ≡ j
+unicast_port n matched whole i j level part pair =
+    let is = pair.served in
+    let own = is.only j level Uni pair.feeds in
+    let here : Serves matched i j part.level part.kind = Serves-along matched i j level part.level Uni part.kind own.0 own.1 pair.feeds in
+    last-only 64 part.outputs j pair.small ((is.outputs j).1 here)
+    (λ y member. elim (whole.once i j level Uni y part.level part.kind pair.feeds ((is.outputs y).0 member)) [
       | inl same ↦ sym same
       | inr multi ↦ absurd (kinds_differ multi.1)
     ])
 
-part_queue : (n : ℕ) (matched : List (Option Fed)) → IsMatch n matched → (i j level : ℕ) (kind : Kind) → j < 64 → Serves matched i j level kind
-    → (part : Served) → IsServed matched i part → queue_served part ≡ queue_to j level kind
-part_queue n matched whole i j level Uni small feeds part is =
-    let own = is.only j level Uni feeds in
+part_queue : (n : ℕ) (matched : List (Option Fed)) → IsMatch n matched → (i j level : ℕ) (kind : Kind) (part : Served) → IsPair matched i j level kind part
+    → queue_served part ≡ queue_to j level kind
+part_queue n matched whole i j level Uni part pair =
+    let own = pair.served.only j level Uni pair.feeds in
     ap (λ k. queue_by k part) (sym own.1)
-    ∙ ap (λ o. OfOutput o part.level) (unicast_port n matched whole i j level small feeds part is)
+    ∙ ap (λ o. OfOutput o part.level) (unicast_port n matched whole i j level part pair)
     ∙ ap (OfOutput j) (sym own.0)
-part_queue n matched whole i j level Multi small feeds part is =
-    let own = is.only j level Multi feeds in
+part_queue n matched whole i j level Multi part pair =
+    let own = pair.served.only j level Multi pair.feeds in
     ap (λ k. queue_by k part) (sym own.1) ∙ ap OfLevel (sym own.0)
 
 -- ---- those that were granted are the first of all that entered and go to the output
@@ -159,7 +166,7 @@ module _ (scheduler : Scheduler) (scheduling : IsScheduler scheduler) (plan : Sw
         let (part, served, own) = served_of-served (ports_of plan) (match_under scheduler plan t) matches i j level kind feeds in
         ap (name_served scheduler plan i t) served
         ∙ ap (λ q. first_name (waiting (queue_in card q (parts t) t)))
-        (part_queue (ports_of plan) (match_under scheduler plan t) matches i j level kind small feeds part own)
+        (part_queue (ports_of plan) (match_under scheduler plan t) matches i j level kind part (record { small = small; feeds = feeds; served = own }))
         ∙ ap (λ s. first_name (waiting s)) (sym (queue_in-same scheduler plan i t (suc t) (omega arith) queue))
         ∙ ap first_name is
 
