@@ -4,7 +4,7 @@ use Rattle.std.proofs.Common.{◌≡◌, ◌∙◌, ℕ, zero, suc, ◌+◌, ◌
 use Rattle.std.proofs.Common.{Option, None, Some, slice_get, slice_index_or, refl, sym, ap, subst, arith, inl, inr, if◌then◌else◌}
 use Rattle.std.specs.Prelude.{filter}
 use Rattle.std.specs.List.{range_with_len}
-use Rattle.std.proofs.lemmas.Bool.{cases_eq, eq-eqb, ne_eqb}
+use Rattle.std.proofs.lemmas.Bool.{cases_Bool, cases_eq, eq-eqb, ne_eqb}
 use Rattle.std.proofs.lemmas.List.{length-map, map-append, drop-map}
 use Rattle.std.proofs.lemmas.Simd.{map-map}
 use Rattle.rotating_pick.specs.declared.limits.TheConstants.{LEVELS}
@@ -49,26 +49,35 @@ none-later (p ∷ ps) m t later =
     none-step p ps m t (λ e. omega arith) (none-later ps (m + 1) t (λ i r at. later (suc i) r at)) (none-later ps m t (λ i r at. later (suc i) r at))
     (is_routed p)
 
+-- with one packet more, which goes anywhere or not
+abbrev told_with : Planned → List Planned → Bool → List Planned
+told_with p ps routed = map planned_of (map coming_of (if routed then p ∷ filter is_routed ps else filter is_routed ps))
+
 arrives-step : (p : Planned) (ps : List Planned) (k m t : ℕ) → ArrivesAs (arriving_from (k + 1) ps t) (arriving_from (m + 1) (told_of ps) t)
     → ArrivesAs (arriving_from (k + 1) ps t) (arriving_from m (told_of ps) t)
-    → (p.arrival ≡ t → arriving_from m (told_of ps) t ≡ None) → (b : Bool) → is_routed p ≡ b
-    → ArrivesAs (arriving_from k (p ∷ ps) t) (arriving_from m (map planned_of (map coming_of (if b then p ∷ filter is_routed ps else filter is_routed ps))) t)
-arrives-step p ps k m t first second none true routed = elim (cases_eq p.arrival t) [
-  | inl now ↦ rw (eq-eqb p.arrival t now) (both k m p routed)
-  | inr later ↦ rw (ne_eqb p.arrival t later) first
-]
-arrives-step p ps k m t first second none false routed = elim (cases_eq p.arrival t) [
-  | inl now ↦ subst (ArrivesAs (if p.arrival == t then Some (k, p) else arriving_from (k + 1) ps t)) (sym (none now))
-      (rw (eq-eqb p.arrival t now) (nowhere k p routed))
-  | inr later ↦ rw (ne_eqb p.arrival t later) second
-]
+    → (p.arrival ≡ t → arriving_from m (told_of ps) t ≡ None) → ArrivesAs (arriving_from k (p ∷ ps) t) (arriving_from m (told_of (p ∷ ps)) t)
+arrives-step p ps k m t first second none =
+    elim (cases_Bool (is_routed p)) [
+      | inl routed ↦
+          subst (λ b. ArrivesAs (arriving_from k (p ∷ ps) t) (arriving_from m (told_with p ps b) t)) (sym routed) (elim (cases_eq p.arrival t) [
+            | inl now ↦ rw (eq-eqb p.arrival t now) (both k m p routed)
+            | inr later ↦ rw (ne_eqb p.arrival t later) first
+          ])
+      | inr passed ↦
+          subst (λ b. ArrivesAs (arriving_from k (p ∷ ps) t) (arriving_from m (told_with p ps b) t)) (sym passed) (elim (cases_eq p.arrival t) [
+            | inl now ↦
+                subst (ArrivesAs (if p.arrival == t then Some (k, p) else arriving_from (k + 1) ps t)) (sym (none now))
+                (rw (eq-eqb p.arrival t now) (nowhere k p passed))
+            | inr later ↦ rw (ne_eqb p.arrival t later) second
+          ])
+    ]
 
 pub arrives-as : (ps : List Planned) → AreRising ps → (k m t : ℕ) → ArrivesAs (arriving_from k ps t) (arriving_from m (told_of ps) t)
 arrives-as [] rising k m t = nothing
 arrives-as (p ∷ ps) rising k m t =
     let tail : AreRising ps = λ a b q r x y less. rising (suc a) (suc b) q r x y (omega arith) in
     arrives-step p ps k m t (arrives-as ps tail (k + 1) (m + 1) t) (arrives-as ps tail (k + 1) m t)
-    (λ now. none-later ps m t (λ i r at. let up = rising 0 (suc i) p r refl at (omega arith) in omega arith)) (is_routed p) refl
+    (λ now. none-later ps m t (λ i r at. let up = rising 0 (suc i) p r refl at (omega arith) in omega arith))
 
 -- ---- queues with the same fan-outs
 abbrev pub fans : List FanCell → List ℕ

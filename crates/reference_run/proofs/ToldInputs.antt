@@ -51,10 +51,12 @@ pub record StandInOrder (ps : List Planned) (c d : Coming) : Type 0 where
 both-later : (p : Planned) (ps : List Planned) (c d : Coming) → StandInOrder ps c d → StandInOrder (p ∷ ps) c d
 both-later p ps c d two = record { first = later p ps c two.first; second = later p ps d two.second; order = let less = two.order in omega arith }
 
-order-step : (p : Planned) (ps : List Planned) (c d : Coming)
-    → ((k m : ℕ) → slice_get (told ps) k ≡ Some c → slice_get (told ps) m ≡ Some d → k < m → StandInOrder ps c d) → (b : Bool) → is_routed p ≡ b → (k m : ℕ)
-    → slice_get (map coming_of (if b then p ∷ filter is_routed ps else filter is_routed ps)) k ≡ Some c
-    → slice_get (map coming_of (if b then p ∷ filter is_routed ps else filter is_routed ps)) m ≡ Some d → k < m → StandInOrder (p ∷ ps) c d
+-- where the one stands before the other in a list, the packets do
+abbrev KeepOrder : List Coming → List Planned → Coming → Coming → Type 0
+KeepOrder coming ps c d = (k m : ℕ) → slice_get coming k ≡ Some c → slice_get coming m ≡ Some d → k < m → StandInOrder ps c d
+
+order-step : (p : Planned) (ps : List Planned) (c d : Coming) → KeepOrder (told ps) ps c d → (b : Bool) → is_routed p ≡ b
+    → KeepOrder (map coming_of (if b then p ∷ filter is_routed ps else filter is_routed ps)) (p ∷ ps) c d
 order-step p ps c d rest true routed k zero is there less = absurd (omega arith)
 order-step p ps c d rest true routed zero (suc m) is there less = record {
   first = record { place = 0; packet = p; found = refl; routed = routed; same = same_Some (coming_of p) c is };

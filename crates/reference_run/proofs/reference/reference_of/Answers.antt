@@ -1,4 +1,4 @@
-use Rattle.std.proofs.Common.{◌≡◌, ◌∙◌, ◌<◌, ℕ, List, [], ◌∷◌, ◌++◌, map, take, length, slice_get, slice_index_or, Some, ap, sym}
+use Rattle.std.proofs.Common.{◌≡◌, ◌∙◌, ◌<◌, [], ◌∷◌, ◌++◌, map, take, length, slice_get, slice_index_or, Some, ap, sym}
 use Rattle.std.proofs.Common.{subst, arith}
 use Rattle.std.specs.Prelude.{Result, Ok, Err, IfOk}
 use Rattle.std.proofs.lemmas.List.{map-append, length-map, take_all, map_more}
@@ -7,7 +7,6 @@ use Rattle.std_lemmas.proofs.Lists.{slice_get-map}
 use Rattle.card_core.specs.Plans.{plan_of}
 use Rattle.switch_plan.specs.GoodPlans.{SwitchPlan, switch_plan_of}
 use Rattle.run_laws.specs.Runs.{ports_of}
-use Rattle.output_queued.specs.declared.coming.Coming.{Coming}
 use Rattle.output_queued.specs.Switches.{IsSwitch}
 use Rattle.output_queued.specs.NotingSteps.{State, HasNoted}
 use Rattle.reference_run.specs.Meeting.{coming_in}
@@ -15,11 +14,11 @@ use Rattle.reference_run.specs.MeetingSteps.{IsReferenceOf}
 use Rattle.reference_run.proofs.ToldInputs.{told-switch}
 use Rattle.reference_run.proofs.reference.reference_of.Goals as goal
 
-made-of : {E : Type 0} (result : Result State E) (plan : SwitchPlan) (n : ℕ) (lists : List (List Coming)) → n ≡ ports_of plan
-    → lists ≡ map coming_in plan.cards → IfOk result (λ r. r.ports ≡ n) → IfOk result (λ r. r.depth ≡ plan.depth)
-    → IfOk result (λ r. map (λ source. source.coming) r.sources ≡ lists) → IfOk result (λ r. HasNoted r []) → IfOk result (λ r. IsReferenceOf plan r [])
-made-of (Ok r) plan n lists count same ports depth coming noted = record { ports = ports ∙ count; depth = depth; coming = coming ∙ same; noted = noted }
-made-of (Err e) plan n lists count same ports depth coming noted = tt
+made-of : {E : Type 0} (result : Result State E) (plan : SwitchPlan) → IfOk result (λ r. r.ports ≡ ports_of plan) → IfOk result (λ r. r.depth ≡ plan.depth)
+    → IfOk result (λ r. map (λ source. source.coming) r.sources ≡ map coming_in plan.cards) → IfOk result (λ r. HasNoted r [])
+    → IfOk result (λ r. IsReferenceOf plan r [])
+made-of (Ok r) plan ports depth coming noted = record { ports = ports; depth = depth; coming = coming; noted = noted }
+made-of (Err e) plan ports depth coming noted = tt
 
 pub coming_in-requires : goal.coming_in-requires
 coming_in-requires c =
@@ -59,8 +58,9 @@ make-requires c =
     c.loop-card.invariant ∙ ap (map (λ x. coming_in (plan_of x))) (take_all c.loop-card.card-index items (omega arith))
     ∙ sym (map-map coming_in plan_of items) in
     let count : length (map plan_of items) ≡ c.len-n.result = length-map items plan_of ∙ sym (c.len-n.ensures ∙ c.args.plan.now.cards.ok.0) in
+    let told = told-switch (switch_plan_of c.args.plan.now) c.requires.good c.requires.countable in
     subst (λ n. IsSwitch n c.args.plan.now.depth (map (λ list. list.items) c.loop-card.coming.items)) count
-    (subst (IsSwitch (length (map plan_of items)) c.args.plan.now.depth) (sym whole) (told-switch (switch_plan_of c.args.plan.now) c.requires.good c.requires.countable))
+    (subst (IsSwitch (length (map plan_of items)) c.args.plan.now.depth) (sym whole) told)
 
 pub returns : goal.returns
 returns c =
@@ -72,5 +72,6 @@ returns c =
     c.loop-card.invariant ∙ ap (map (λ x. coming_in (plan_of x))) (take_all c.loop-card.card-index items (omega arith))
     ∙ sym (map-map coming_in plan_of items) in
     let count : length (map plan_of items) ≡ c.len-n.result = length-map items plan_of ∙ sym (c.len-n.ensures ∙ c.args.plan.now.cards.ok.0) in
-    made-of c.make.result (switch_plan_of c.args.plan.now) c.len-n.result (map (λ list. list.items) c.loop-card.coming.items)
-    (sym count) whole c.make.ensures.ports c.make.ensures.depth c.make.ensures.coming c.make.ensures.noted
+    made-of c.make.result (switch_plan_of c.args.plan.now) (subst (λ n. IfOk c.make.result (λ r. r.ports ≡ n)) (sym count) c.make.ensures.ports)
+    c.make.ensures.depth (subst (λ lists. IfOk c.make.result (λ r. map (λ source. source.coming) r.sources ≡ lists)) whole c.make.ensures.coming)
+    c.make.ensures.noted
