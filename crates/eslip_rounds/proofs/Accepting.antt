@@ -152,8 +152,8 @@ module _ (n t : ℕ) (rows : List Row) (places : Places) (before : List (Option 
 
   Accepts-along : (i j level : ℕ) (kind : Kind) → IsAccepted n t places (Serves grants) i j level kind ↔ Accepts n t rows places before i j level kind
   Accepts-along i j level kind = (
-    IsAccepted-along n t places (Serves grants) (Grants n t rows places before) i j level kind (grants_are i),
-    IsAccepted-along n t places (Grants n t rows places before) (Serves grants) i j level kind (λ y m k. ((grants_are i y m k).1, (grants_are i y m k).0)),
+    IsAccepted-along n t places (Serves grants) (Grants n t rows places before) grants_are i j level kind,
+    IsAccepted-along n t places (Grants n t rows places before) (Serves grants) (λ x y m k. ((grants_are x y m k).1, (grants_are x y m k).0)) i j level kind,
   )
 
   -- the round that is computed is the round of the definition

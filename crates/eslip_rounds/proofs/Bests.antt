@@ -92,11 +92,15 @@ pub Takes-along : (kind : Kind) (n from : ℕ) (P Q : ℕ → Type 0) → ((y : 
 Takes-along Uni n from P Q same j = (IsFirstFrom-along n from P Q j (λ y y_in. same y), IsFirstFrom-along n from Q P j (λ y y_in. ((same y).1, (same y).0)))
 Takes-along Multi n from P Q same j = same j
 
-pub IsAccepted-along : (n t : ℕ) (places : Places) (P Q : ℕ → ℕ → ℕ → Kind → Type 0) (i j level : ℕ) (kind : Kind)
-    → ((y m : ℕ) (k : Kind) → P i y m k ↔ Q i y m k) → IsAccepted n t places P i j level kind → IsAccepted n t places Q i j level kind
-IsAccepted-along n t places P Q i j level kind same a =
+-- each pair of an input and an output that the one has, at a level with a kind, the other has too
+abbrev pub AreAmong : (ℕ → ℕ → ℕ → Kind → Type 0) → (ℕ → ℕ → ℕ → Kind → Type 0) → Type 0
+AreAmong P Q = (i j level : ℕ) (kind : Kind) → P i j level kind → Q i j level kind
+
+pub IsAccepted-along : (n t : ℕ) (places : Places) (P Q : ℕ → ℕ → ℕ → Kind → Type 0) → ((i j level : ℕ) (kind : Kind) → P i j level kind ↔ Q i j level kind)
+    → AreAmong (IsAccepted n t places P) (IsAccepted n t places Q)
+IsAccepted-along n t places P Q same i j level kind a =
     record {
       best = IsBest-along t (λ m k. (y : ℕ) × P i y m k) (λ m k. (y : ℕ) × Q i y m k) level kind
-          (λ m k. (λ p. (p.0, (same p.0 m k).0 p.1), λ q. (q.0, (same q.0 m k).1 q.1))) a.best;
-      taken = (Takes-along kind n (accept_of places i level) (λ y. P i y level kind) (λ y. Q i y level kind) (λ y. same y level kind) j).0 a.taken;
+          (λ m k. (λ p. (p.0, (same i p.0 m k).0 p.1), λ q. (q.0, (same i q.0 m k).1 q.1))) a.best;
+      taken = (Takes-along kind n (accept_of places i level) (λ y. P i y level kind) (λ y. Q i y level kind) (λ y. same i y level kind) j).0 a.taken;
     }

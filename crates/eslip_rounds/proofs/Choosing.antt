@@ -99,8 +99,8 @@ module _ (n t : ℕ) (rows : List Row) (asks : Asks) (ready : Ready) (before : L
       ]
 
   -- and what stands in the columns at the lowest rank is asked
-  pub asked_at_least : (rank x : ℕ) → rank < RANKS → AsksAt (preferred t) asks ready j rank x → ((r y : ℕ) → r < rank → AsksAt (preferred t) asks ready j r y → ⊥)
-      → Requests rows before x j (level_at rank) (kind_at (preferred t) rank)
+  pub asked_at_least : (rank x : ℕ) → rank < RANKS → AsksAt (preferred t) asks ready j rank x
+      → ((r y : ℕ) → r < rank → AsksAt (preferred t) asks ready j r y → ⊥) → Requests rows before x j (level_at rank) (kind_at (preferred t) rank)
   asked_at_least rank x rank_in p none =
       let first_kind = preferred t in
       let named = named_in rank x p in
@@ -159,7 +159,8 @@ module _ (n t : ℕ) (rows : List Row) (asks : Asks) (ready : Ready) (before : L
         let level_in = level_asked rows before i j m k g.first.member in
         let rank_in = rank_of-lt first_kind m k level_in in
         let Some_asks : ℕ → Type 0 = λ r. (x : ℕ) × (x < n) × AsksAt (preferred t) asks ready j r x in
-        let decides : (r : ℕ) → Decides (Some_asks r) = λ r. elim (least (AsksAt (preferred t) asks ready j r) (asks-decides n first_kind asks ready places j r) n) [
+        let asks_there = asks-decides n first_kind asks ready places j in
+        let decides : (r : ℕ) → Decides (Some_asks r) = λ r. elim (least (AsksAt (preferred t) asks ready j r) (asks_there r) n) [
           | inl found ↦ inl (found.0, found.1, found.2)
           | inr none ↦ inr (λ p. none p.0 p.1 p.2)
         ] in

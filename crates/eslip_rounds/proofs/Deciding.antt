@@ -133,7 +133,7 @@ IsMulticasting-decides n matched whole i level =
           none (on.some.0, below, on.some.1))
       | inl some ↦ inl (record {
         some = (some.0, some.2);
-        only = λ j other kind s. let alike = Serves-alike n matched whole i j some.0 other level kind Multi s some.2 in alike;
+        only = Serves-alike n matched whole i some.0 level Multi some.2;
       })
     ]
 

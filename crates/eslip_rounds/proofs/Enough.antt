@@ -28,14 +28,19 @@ used_more a rest k some e =
     let one : cond {A = ℕ} (ltb 0 a) 1 0 ≡ 1 = ap (λ b. cond {A = ℕ} b 1 0) here in
     omega arith
 
-module _ (n t : ℕ) (rows : List Row) (places : Places) (at_ports : AreAtPorts places) (ports : places.ports ≡ n) where
-  round_keeps : (a b : List (Option Fed)) → IsRound n t rows places a b → (j : ℕ) (f : Fed) → fed_of a j ≡ Some f → fed_of b j ≡ Some f
-  round_keeps a b r j f e = (r.pairs f.input j f.level f.kind).1 (inl e)
+module _ (n t : ℕ) (rows : List Row) (places : Places) (a b : List (Option Fed)) (r : IsRound n t rows places a b) where
+  round_keeps : (j : ℕ) (f : Fed) → fed_of a j ≡ Some f → fed_of b j ≡ Some f
+  round_keeps j f e = (r.pairs f.input j f.level f.kind).1 (inl e)
 
   -- a round adds to the match, or leaves it
-  pub adds : (a b : List (Option Fed)) → length a ≡ n → IsRound n t rows places a b → (matched_count a < matched_count b) ⊎ (a ≡ b)
-  adds a b long r = more_or_same a b (long ∙ sym r.count) (round_keeps a b r)
+  adds : length a ≡ n → (matched_count a < matched_count b) ⊎ (a ≡ b)
+  adds long = more_or_same a b (long ∙ sym r.count) round_keeps
 
+  -- and then a further one leaves it too
+  pub settles : length a ≡ n → matched_count b ≤ matched_count a → IsRound n t rows places b b
+  settles long few = elim (adds long) [ inl more ↦ absurd (omega arith) | inr same ↦ subst (λ m. IsRound n t rows places m b) same r ]
+
+module _ (n t : ℕ) (rows : List Row) (places : Places) (at_ports : AreAtPorts places) (ports : places.ports ≡ n) where
   none_asks : (before : List (Option Fed)) → IsMatch n before → IsRound n t rows places before before → (i j level : ℕ) (kind : Kind) → i < n → j < n
       → IsFreeOutput before j → Requests rows before i j level kind → ⊥
   none_asks before whole round i j level kind i_in j_in vacant r =
@@ -68,7 +73,7 @@ module _ (n t : ℕ) (rows : List Row) (places : Places) (at_ports : AreAtPorts 
   left_alone a b whole r max =
       let lengths : length a ≡ length b = whole.count ∙ sym r.count in
       ext_get_or None a b lengths
-      (λ j below. kept_or_new (fed_of a j) (fed_of b j) (round_keeps a b r j)
+      (λ j below. kept_or_new (fed_of a j) (fed_of b j) (round_keeps n t rows places a b r j)
       (λ y none e.
       elim ((r.pairs y.input j y.level y.kind).0 (Serves-from b j y e)) [
         | inl old ↦ none-some (record { input = y.input; level = y.level; kind = y.kind }) (sym none ∙ old)
@@ -100,7 +105,7 @@ module _ (n t : ℕ) (rows : List Row) (places : Places) (at_ports : AreAtPorts 
   maximal_or_more before [] whole chain within = inr (record { used = refl; many = omega arith; last = λ d some. some })
   maximal_or_more before (step ∷ steps) whole chain within =
       let next = IsMatch-round n t rows places at_ports ports before step whole chain.0 in
-      elim (adds before step whole.count chain.0) [
+      elim (adds n t rows places before step chain.0 whole.count) [
         | inr same ↦ inl (still_maximal before (step ∷ steps) whole chain (maximal_step before step whole chain.0 same within))
         | inl more ↦ elim (maximal_or_more step steps next chain.1 within) [
           | inl max ↦ inl max

@@ -1,6 +1,6 @@
 -- Columns that are kept: what they say of the rows, and a change of one set of a row.
-use Rattle.std.proofs.Common.{◌≡◌, ◌≢◌, ℕ, ◌<◌, ◌≤◌, ◌↔◌, ◌∙◌, List, [], length, slice_index, slice_index_or, slice_set, take, replicate, refl, sym, ap, subst}
-use Rattle.std.proofs.Common.{inl, inr, arith, length-set, get_or-set_same, get_or-set_other}
+use Rattle.std.proofs.Common.{◌≡◌, ◌≢◌, ℕ, ◌<◌, ◌≤◌, ◌↔◌, ◌⊎◌, ◌∙◌, List, [], length, slice_index, slice_index_or, slice_set, take, replicate, refl}
+use Rattle.std.proofs.Common.{sym, ap, subst, inl, inr, arith, get_or-set_same, get_or-set_other}
 use Rattle.std.proofs.lemmas.Bool.{cases_eq, cases_lt}
 use Rattle.std.proofs.lemmas.List.{get_or-take, length-take, get_or_past, get_or-replicate, length-replicate}
 use Rattle.std_lemmas.proofs.Lists.{get_or-same}
@@ -18,7 +18,7 @@ use Rattle.eslip_rounds.specs.declared.asks.Asks.{Asks}
 use Rattle.eslip_rounds.specs.declared.ranks.TheConstants.{SETS}
 use Rattle.eslip_rounds.specs.RankSteps.{level_at, kind_at}
 use Rattle.eslip_rounds.specs.Steps.{AreAsks}
-use Rattle.eslip_rounds.specs.ColumnSteps.{with_set, IsTurned, AreOutputs, IsKeptSet, AreKept}
+use Rattle.eslip_rounds.specs.ColumnSteps.{with_set, IsKeptSet, AreKept}
 
 -- of the first n rows
 pub row_of-take : (n : ℕ) (rows : List Row) (i : ℕ) → i < n → row_of (take n rows) i ≡ row_of rows i
@@ -73,38 +73,32 @@ IsKeptSet-first n rows set table named long zeros none nobody =
       outputs = λ j. (λ has. absurd (zero-has named j none has), λ some. absurd (some (zeros j)));
     }
 
--- the columns of one set, where the row of one input is another one
-pub IsKeptSet-turned : (n input : ℕ) (rows : List Row) (row : Row) (set new : ℕ) (table after : List ℕ) (named later : ℕ)
-    → input < n → input < length rows → ((j : ℕ) → Has new j ↔ Names row (level_at set) (kind_at Uni set) j) → IsKeptSet n rows set table named
-    → length after ≡ MAX_PORTS → IsTurned input new table after → AreOutputs after later → IsKeptSet n (slice_set rows input row) set after later
-IsKeptSet-turned n input rows row set new table after named later input_in inside names kept long turned outputs =
+-- what the rows name where the row of one input is another one
+pub Names-set : (rows : List Row) (input : ℕ) (row : Row) → input < length rows → (i j level : ℕ) (kind : Kind)
+    → Names (row_of (slice_set rows input row) i) level kind j ↔ (((i ≡ input) × Names row level kind j) ⊎ ((i ≢ input) × Names (row_of rows i) level kind j))
+Names-set rows input row inside i j level kind =
+    let P : Row → Type 0 = λ r. Names r level kind j in
+    elim (cases_eq i input) [
+      | inl same ↦
+          let here : row_of (slice_set rows input row) i ≡ row = ap (row_of (slice_set rows input row)) same
+          ∙ get_or-set_same rows input row no_row inside in
+          (λ has. inl (same, subst P here has), λ s. elim s [ inl mine ↦ subst P (sym here) mine.1 | inr other ↦ absurd (other.0 same) ])
+      | inr apart ↦
+          let there : row_of (slice_set rows input row) i ≡ row_of rows i = get_or-set_other rows input i row no_row apart in
+          (λ has. inr (apart, subst P there has), λ s. elim s [ inl mine ↦ absurd (apart mine.0) | inr other ↦ subst P (sym there) other.1 ])
+    ]
+
+-- the columns of one set are kept for other rows that name the same there
+pub IsKeptSet-along : (n : ℕ) (rows others : List Row) (set : ℕ) (table : List ℕ) (named : ℕ)
+    → ((i j : ℕ) → Names (row_of others i) (level_at set) (kind_at Uni set) j ↔ Names (row_of rows i) (level_at set) (kind_at Uni set) j)
+    → IsKeptSet n rows set table named → IsKeptSet n others set table named
+IsKeptSet-along n rows others set table named same kept =
     record {
-      long = long;
+      long = kept.long;
       columns = λ i j j_in.
-          let e = turned i j j_in in
           let k = kept.columns i j j_in in
-          elim (cases_eq i input) [
-            | inl same ↦
-                let here : row_of (slice_set rows input row) input ≡ row = get_or-set_same rows input row no_row inside in
-                let P : ℕ → Type 0 = λ x. Names (row_of (slice_set rows input row) x) (level_at set) (kind_at Uni set) j in
-                let Q : Row → Type 0 = λ r. Names r (level_at set) (kind_at Uni set) j in (
-                  λ has. elim (e.0 has) [
-                    | inl mine ↦ ((let in_n = input_in in omega arith), subst P (sym same) (subst Q (sym here) ((names j).0 mine.1)))
-                    | inr other ↦ absurd (other.0 same)
-                  ],
-                  λ p. e.1 (inl (same, (names j).1 (subst Q here (subst P same p.1)))),
-                )
-            | inr apart ↦
-                let there : row_of (slice_set rows input row) i ≡ row_of rows i = get_or-set_other rows input i row no_row apart in
-                let Q : Row → Type 0 = λ r. Names r (level_at set) (kind_at Uni set) j in (
-                  λ has. elim (e.0 has) [
-                    | inl mine ↦ absurd (apart mine.0)
-                    | inr other ↦ let p = k.0 other.1 in (p.0, subst Q (sym there) p.1)
-                  ],
-                  λ p. e.1 (inr (apart, k.1 (p.0, subst Q there p.1))),
-                )
-          ];
-      outputs = outputs;
+          (λ has. let p = k.0 has in (p.0, (same i j).1 p.1), λ p. k.1 (p.0, (same i j).0 p.1));
+      outputs = kept.outputs;
     }
 
 -- a row with one set replaced names in all other sets what it named
@@ -114,62 +108,6 @@ with_set-others row level Uni outputs l Uni apart = get_or-set_other row.uni lev
 with_set-others row level Uni outputs l Multi apart = refl
 with_set-others row level Multi outputs l Uni apart = refl
 with_set-others row level Multi outputs l Multi apart = get_or-set_other row.multi level l outputs 0 (λ same. apart same refl)
-
--- the columns of one set, where the row of one input is another one that names the same outputs there
-IsKeptSet-same : (n input : ℕ) (rows : List Row) (row : Row) (set : ℕ) (table : List ℕ) (named : ℕ) → input < length rows
-    → slice_index (sets_of row (kind_at Uni set)) (level_at set) ≡ slice_index (sets_of (row_of rows input) (kind_at Uni set)) (level_at set)
-    → IsKeptSet n rows set table named → IsKeptSet n (slice_set rows input row) set table named
-IsKeptSet-same n input rows row set table named inside same kept =
-    let outputs_of : Row → ℕ = λ r. slice_index (sets_of r (kind_at Uni set)) (level_at set) in
-    let stays : (i : ℕ) → outputs_of (row_of (slice_set rows input row) i) ≡ outputs_of (row_of rows i) = λ i. elim (cases_eq i input) [
-      | inl here ↦
-          let P : ℕ → Type 0 = λ x. outputs_of (row_of (slice_set rows input row) x) ≡ outputs_of (row_of rows x) in
-          subst P (sym here) (ap outputs_of (get_or-set_same rows input row no_row inside) ∙ same)
-      | inr apart ↦ ap outputs_of (get_or-set_other rows input i row no_row apart)
-    ] in
-    record {
-      long = kept.long;
-      columns = λ i j j_in.
-          let k = kept.columns i j j_in in
-          let P : ℕ → Type 0 = λ s. Has s j in (
-            λ has. let p = k.0 has in (p.0, subst P (sym (stays i)) p.1),
-            λ p. k.1 (p.0, subst P (stays i) p.1),
-          );
-      outputs = kept.outputs;
-    }
-
--- the tables after a change of one set, where the new row names in all others what the old one did
-pub AreKept-set : (n input set : ℕ) (rows : List Row) (row : Row) (before after : Asks) (table : List ℕ) (named : ℕ) → set < SETS → input < n
-    → AreKept n rows before → after.columns ≡ slice_set before.columns set table → after.outputs ≡ slice_set before.outputs set named
-    → ((s : ℕ) → (s ≡ set → ⊥) → slice_index (sets_of row (kind_at Uni s)) (level_at s)
-    ≡ slice_index (sets_of (row_of rows input) (kind_at Uni s)) (level_at s))
-    → IsKeptSet n (slice_set rows input row) set table named → AreKept n (slice_set rows input row) after
-AreKept-set n input set rows row before after table named set_in input_in kept columns outputs same changed =
-    let inside : input < length rows = let long = kept.long in let size = kept.size in omega arith in
-    let in_columns : set < length before.columns = let long = kept.sets in omega arith in
-    let in_outputs : set < length before.outputs = let long = kept.words in omega arith in
-    let at : (s : ℕ) → List ℕ → ℕ → Type 0 = λ s a x. IsKeptSet n (slice_set rows input row) s a x in
-    let along : (s : ℕ) (a b : List ℕ) (x y : ℕ) → b ≡ a → y ≡ x → at s a x → at s b y = λ s a b x y e d h.
-    subst (λ z. at s b z) (sym d) (subst (λ (z : List ℕ). at s z x) (sym e) h) in
-    record {
-      some = kept.some;
-      size = kept.size;
-      long = length-set rows input row ∙ kept.long;
-      sets = ap length columns ∙ (length-set before.columns set table ∙ kept.sets);
-      words = ap length outputs ∙ (length-set before.outputs set named ∙ kept.words);
-      each = λ s s_in. elim (cases_eq s set) [
-        | inl here ↦
-            let P : ℕ → Type 0 = λ x. at x (slice_index_or after.columns x []) (slice_index after.outputs x) in
-            subst P (sym here) (along set table (slice_index_or after.columns set []) named (slice_index after.outputs set)
-            (ap (λ c. slice_index_or c set []) columns ∙ get_or-set_same before.columns set table [] in_columns)
-            (ap (λ o. slice_index o set) outputs ∙ get_or-set_same before.outputs set named 0 in_outputs) changed)
-        | inr apart ↦
-            along s (slice_index_or before.columns s []) (slice_index_or after.columns s []) (slice_index before.outputs s) (slice_index after.outputs s)
-            (ap (λ c. slice_index_or c s []) columns ∙ get_or-set_other before.columns set s table [] apart)
-            (ap (λ o. slice_index o s) outputs ∙ get_or-set_other before.outputs set s named 0 apart)
-            (IsKeptSet-same n input rows row s (slice_index_or before.columns s []) (slice_index before.outputs s) inside (same s apart) (kept.each s s_in))
-      ];
-    }
 
 -- as many rows are seen as the switch has ports
 pub length-seen : (n : ℕ) (rows : List Row) → n ≤ MAX_PORTS → length rows ≡ MAX_PORTS → length (take n rows) ≡ n

@@ -17,7 +17,6 @@ pub mod Decided
 pub mod Refusing
 pub mod Unique
 pub mod Progress
-pub mod EmptyRounds
 pub mod Testing
 pub mod Finding
 pub mod Ranking

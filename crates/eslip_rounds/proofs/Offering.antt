@@ -12,9 +12,9 @@ use Rattle.eslip_rounds.specs.declared.asks.Asks.{Asks}
 use Rattle.eslip_rounds.specs.declared.grants.Choice.{Choice}
 use Rattle.eslip_rounds.specs.declared.grants.Offers.{Offers}
 use Rattle.eslip_rounds.specs.declared.grants.Ready.{Ready}
-use Rattle.eslip_rounds.specs.RankSteps.{level_at, kind_at, set_at}
-use Rattle.eslip_rounds.specs.Steps.{AreAsks, IsNamed, AreNamed, AreReady, KeepsToPorts, IsChosen, AreOffers, IsOffered, AreOpen}
-use Rattle.eslip_rounds.proofs.RankLemmas.{level_at-lt, set_at-lt}
+use Rattle.eslip_rounds.specs.RankSteps.{level_at, kind_at}
+use Rattle.eslip_rounds.specs.Steps.{AreAsks, AreNamed, AreReady, KeepsToPorts, IsChosen, AreOffers, IsOffered, AreOpen}
+use Rattle.eslip_rounds.proofs.RankLemmas.{level_at-lt}
 use Rattle.eslip_rounds.proofs.Choosing.{IsChosen-only, from_of-lt}
 
 pub AreOffers-along : (P Q : ℕ → ℕ → ℕ → Type 0) (offers : Offers) → ((i j rank : ℕ) → P i j rank ↔ Q i j rank) → AreOffers P offers → AreOffers Q offers
@@ -153,33 +153,25 @@ pub KeepsToPorts-ready : (n : ℕ) (first_kind : Kind) (asks : Asks) (before : L
 KeepsToPorts-ready n first_kind asks before ready readies =
     record { ranks = λ rank has. ((readies.ranks rank).0 has).0; inputs = λ rank i has may. ((readies.inputs rank i has).0 may).0 }
 
--- the free outputs that any row names offer all that the free outputs offer
-pub AreOffers-asked : (n : ℕ) (first_kind : Kind) (asks : Asks) (ready : Ready) (places : Places) (before : List (Option Fed)) (free asked : ℕ)
-    (offers : Offers) → ((j : ℕ) → Has free j ↔ ((j < n) × IsFreeOutput before j)) → ((j : ℕ) → Has asked j ↔ (Has free j × IsNamed asks j))
-    → AreReady n first_kind asks before ready → AreNamed n asks
-    → AreOffers (λ i j rank. Has asked j × IsChosen n first_kind asks ready places j (record { rank = rank; input = i })) offers
-    → AreOffers (λ i j rank. ((j < n) × IsFreeOutput before j) × IsChosen n first_kind asks ready places j (record { rank = rank; input = i })) offers
-AreOffers-asked n first_kind asks ready places before free asked offers frees both readies named =
-    AreOffers-along (λ i j rank. Has asked j × IsChosen n first_kind asks ready places j (record { rank = rank; input = i }))
-    (λ i j rank. ((j < n) × IsFreeOutput before j) × IsChosen n first_kind asks ready places j (record { rank = rank; input = i })) offers
-    (λ i j rank. (
-      λ p. ((frees j).0 ((both j).0 p.0).0, p.1),
-      λ q.
-          let set = set_at first_kind rank in
-          let member = q.1.picked.member in
-          let occurs = (readies.ranks rank).0 member.0.0 in
-          let set_in = set_at-lt first_kind rank occurs.0 in
-          ((both j).1 ((frees j).1 q.0, (set, set_in, named set i j set_in occurs.1 q.0.0 member.0.1)), q.1),
-    ))
+-- where what is offered is named, the free outputs that are named offer all that the free outputs offer
+pub AreOffers-asked : (C : ℕ → ℕ → ℕ → Type 0) (Free Named : ℕ → Type 0) (asked : ℕ) (offers : Offers) → ((j : ℕ) → Has asked j ↔ (Free j × Named j))
+    → ((i j rank : ℕ) → Free j → C i j rank → Named j) → AreOffers (λ i j rank. Has asked j × C i j rank) offers
+    → AreOffers (λ i j rank. Free j × C i j rank) offers
+AreOffers-asked C Free Named asked offers both named =
+    AreOffers-along (λ i j rank. Has asked j × C i j rank) (λ i j rank. Free j × C i j rank) offers
+    (λ i j rank. (λ p. (((both j).0 p.0).0, p.1), λ q. ((both j).1 (q.0, named i j rank q.0 q.1), q.1)))
 
--- what the free outputs offer may be taken
-pub AreOpen-from_offers : (n : ℕ) (first_kind : Kind) (asks : Asks) (ready : Ready) (places : Places) (before : List (Option Fed)) (offers : Offers)
-    → AreAtPorts places → places.ports ≡ n → AreReady n first_kind asks before ready
-    → AreOffers (λ i j rank. ((j < n) × IsFreeOutput before j) × IsChosen n first_kind asks ready places j (record { rank = rank; input = i })) offers
-    → AreOpen n first_kind before offers
-AreOpen-from_offers n first_kind asks ready places before offers at_ports ports readies o =
-    let G : ℕ → ℕ → ℕ → Type 0 = λ i j rank. ((j < n) × IsFreeOutput before j)
-    × IsChosen n first_kind asks ready places j (record { rank = rank; input = i }) in
+-- what the free outputs offer to the inputs that may ask
+pub record IsOffering (n : ℕ) (first_kind : Kind) (asks : Asks) (places : Places) (before : List (Option Fed)) (offers : Offers) : Type 0 where
+  pub ready : Ready
+  pub readies : AreReady n first_kind asks before ready
+  pub offered : AreOffers (λ i j rank. ((j < n) × IsFreeOutput before j) × IsChosen n first_kind asks ready places j (record { rank = rank; input = i })) offers
+
+-- may be taken
+pub AreOpen-from_offers : (n : ℕ) (first_kind : Kind) (asks : Asks) (places : Places) (before : List (Option Fed)) (offers : Offers) → AreAtPorts places
+    → places.ports ≡ n → IsOffering n first_kind asks places before offers → AreOpen n first_kind before offers
+AreOpen-from_offers n first_kind asks places before offers at_ports ports made =
+    let o = made.offered in
     record {
       each = λ i has.
           let s = o.some i has in
@@ -188,7 +180,7 @@ AreOpen-from_offers n first_kind asks ready places before offers at_ports ports 
             rank_in = c.rank_in;
             some = (s.0, (o.listed i s.0 has).1 s.1);
             free = λ j h. ((o.listed i j has).0 h).0;
-            ready = ((readies.inputs (slice_index offers.ranks i) i c.picked.member.0.0).0 c.picked.member.1).1;
+            ready = ((made.readies.inputs (slice_index offers.ranks i) i c.picked.member.0.0).0 c.picked.member.1).1;
           };
       apart = λ i k j i_has k_has a b.
           let p = (o.listed i j i_has).0 a in
@@ -197,7 +189,7 @@ AreOpen-from_offers n first_kind asks ready places before offers at_ports ports 
           let g : Choice = record { rank = slice_index offers.ranks k; input = k } in
           let j_in = p.0.0 in
           let from_in = from_of-lt places at_ports j (level_at f.rank) (kind_at first_kind f.rank) (omega arith) (level_at-lt f.rank p.1.rank_in) in
-          ap (λ (c : Choice). c.input) (IsChosen-only n first_kind asks ready places j f g (omega arith) p.1 q.1);
+          ap (λ (c : Choice). c.input) (IsChosen-only n first_kind asks made.ready places j f g (omega arith) p.1 q.1);
     }
 
 -- the outputs that have chosen are those that no longer wait

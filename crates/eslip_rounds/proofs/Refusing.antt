@@ -1,5 +1,6 @@
 -- The refused grants that are told are those of the first round.
-use Rattle.std.proofs.Common.{◌≡◌, ℕ, ◌<◌, ◌↔◌, ◌∙◌, List, [], ◌∷◌, Option, None, Some, length, slice_index, slice_index_or, refl, sym, ap, subst, inl, inr, arith}
+use Rattle.std.proofs.Common.{◌≡◌, ℕ, ◌<◌, ◌↔◌, ◌∙◌, List, [], ◌∷◌, Option, None, Some, length, slice_index, slice_index_or, refl, sym, ap, subst}
+use Rattle.std.proofs.Common.{inl, inr, arith}
 use Rattle.std.proofs.lemmas.Option.{none-some}
 use Rattle.rotating_pick.specs.PortSets.{Has}
 use Rattle.rotating_pick.specs.declared.kinds.Kind.{Kind}
@@ -15,31 +16,31 @@ use Rattle.pointer_state.specs.Places.{Places, AreAtPorts, accept_of}
 use Rattle.eslip_rounds.specs.declared.asks.Asks.{Asks}
 use Rattle.eslip_rounds.specs.declared.grants.Choice.{Choice}
 use Rattle.eslip_rounds.specs.declared.refusals.Refused.{Refused}
-use Rattle.eslip_rounds.specs.declared.rounds.Made.{Made}
 use Rattle.eslip_rounds.specs.RankSteps.{level_at, kind_at, rank_of}
 use Rattle.eslip_rounds.specs.Rounds.{preferred, from_of, Grants, Accepts, IsRound, AreRounds}
 use Rattle.eslip_rounds.specs.Slots.{IsRefused}
-use Rattle.eslip_rounds.specs.Steps.{IsNamed, AreAsks, GrantsUnicast, AreToldOf, AreMade}
+use Rattle.eslip_rounds.specs.Steps.{IsNamed, AreAsks, GrantsUnicast, AreToldOf}
 use Rattle.eslip_rounds.specs.Refusals.{AreRefused, AreToldWithin}
 use Rattle.eslip_rounds.proofs.RankLemmas.{kind_at-rank_of, level_at-rank_of, rank_of-lt, Names-rank_of}
 use Rattle.eslip_rounds.proofs.Bests.{taken_from}
 use Rattle.eslip_rounds.proofs.Choosing.{from_of-lt, level_asked, IsChosen-only, Grants-from_chosen, chosen_from_grants}
 
--- what some row names is named
-IsNamed-from : (n : ℕ) (rows : List Row) (asks : Asks) → AreAsks n rows asks → (i j level : ℕ) (kind : Kind) → i < n → level < LEVELS
-    → Names (row_of rows i) level kind j → IsNamed asks j
-IsNamed-from n rows asks are i j level kind i_in level_in named =
-    let set = rank_of Uni level kind in
-    let set_in = rank_of-lt Uni level kind level_in in
-    (set, set_in, are.outputs set i j set_in i_in ((Names-rank_of (row_of rows i) level kind j).0 named))
+-- what is told is of the first round of a slot, of the outputs that it did not match
+pub record AreToldFirst (n t : ℕ) (rows : List Row) (places : Places) (asks : Asks) (refused : Refused) : Type 0 where
+  pub asked : AreAsks n rows asks
+  pub first_match : List (Option Fed)
+  pub round : IsRound n t rows places (unmatched n) first_match
+  pub first_outputs : ℕ
+  pub firsts : (j : ℕ) → Has first_outputs j ↔ ((j < n) × (IsFreeOutput first_match j → ⊥))
+  pub are_told : AreToldOf n (preferred t) asks places (λ j. ((j < n) × (Has first_outputs j → ⊥)) × IsNamed asks j) refused
 
-module _ (n t : ℕ) (rows : List Row) (places : Places) (asks : Asks) (at_ports : AreAtPorts places) (ports : places.ports ≡ n)
-    (are : AreAsks n rows asks) (first_match : List (Option Fed)) (round : IsRound n t rows places (unmatched n) first_match)
-    (first_outputs : ℕ) (firsts : (j : ℕ) → Has first_outputs j ↔ ((j < n) × (IsFreeOutput first_match j → ⊥))) (refused : Refused)
-    (are_told : AreToldOf n (preferred t) asks places (λ j. ((j < n) × (Has first_outputs j → ⊥)) × IsNamed asks j) refused) where
-  granted : (i j level : ℕ) → j < n → GrantsUnicast n (preferred t) asks are_told.ready places i j level → Grants n t rows places (unmatched n) i j level Uni
+module _ (n t : ℕ) (rows : List Row) (places : Places) (asks : Asks) (refused : Refused) (at_ports : AreAtPorts places) (ports : places.ports ≡ n)
+    (first : AreToldFirst n t rows places asks refused) where
+  granted : (i j level : ℕ) → j < n → GrantsUnicast n (preferred t) asks first.are_told.ready places i j level
+      → Grants n t rows places (unmatched n) i j level Uni
   granted i j level j_in chosen =
-      let g = Grants-from_chosen n t rows asks are_told.ready (unmatched n) are are_told.readies j j_in places (fed_of-unmatched n j) chosen.0 i chosen.1 in
+      let told = first.are_told in
+      let g = Grants-from_chosen n t rows asks told.ready (unmatched n) first.asked told.readies j j_in places (fed_of-unmatched n j) chosen.0 i chosen.1 in
       let P : ℕ → Type 0 = λ m. Grants n t rows places (unmatched n) i j m (kind_at (preferred t) chosen.0) in
       let Q : Kind → Type 0 = λ k. Grants n t rows places (unmatched n) i j level k in
       subst Q chosen.2 (subst P (sym chosen.3) g)
@@ -49,8 +50,9 @@ module _ (n t : ℕ) (rows : List Row) (places : Places) (asks : Asks) (at_ports
       × (k ≡ q)
   grants_once i j m x l k q g h =
       let first_kind = preferred t in
-      let a = chosen_from_grants n t rows asks are_told.ready (unmatched n) are are_told.readies j g.output_in places (fed_of-unmatched n j) i m k g in
-      let b = chosen_from_grants n t rows asks are_told.ready (unmatched n) are are_told.readies j h.output_in places (fed_of-unmatched n j) x l q h in
+      let told = first.are_told in
+      let a = chosen_from_grants n t rows asks told.ready (unmatched n) first.asked told.readies j g.output_in places (fed_of-unmatched n j) i m k g in
+      let b = chosen_from_grants n t rows asks told.ready (unmatched n) first.asked told.readies j h.output_in places (fed_of-unmatched n j) x l q h in
       let level_is = level_at-rank_of first_kind m k in
       let kind_is = kind_at-rank_of first_kind m k in
       let j_in : j < places.ports = let below = g.output_in in omega arith in
@@ -58,7 +60,7 @@ module _ (n t : ℕ) (rows : List Row) (places : Places) (asks : Asks) (at_ports
       omega arith in
       let P : ℕ → Type 0 = λ z. from_of places j z k < n in
       let Q : Kind → Type 0 = λ z. from_of places j (level_at (rank_of first_kind m k)) z < n in
-      let same = IsChosen-only n first_kind asks are_told.ready places j (record { rank = rank_of first_kind m k; input = i })
+      let same = IsChosen-only n first_kind asks first.are_told.ready places j (record { rank = rank_of first_kind m k; input = i })
       (record { rank = rank_of first_kind l q; input = x }) (subst Q (sym kind_is) (subst P (sym level_is) picks)) a b in
       let ranks : rank_of first_kind m k ≡ rank_of first_kind l q = ap (λ (f : Choice). f.rank) same in (
         ap (λ (f : Choice). f.input) same,
@@ -67,12 +69,12 @@ module _ (n t : ℕ) (rows : List Row) (places : Places) (asks : Asks) (at_ports
       )
 
   -- an output whose grant is refused is matched with nobody
-  left_free : (i j level : ℕ) → IsRefused n t rows places i j level → IsFreeOutput first_match j
-  left_free i j level r = go (fed_of first_match j) refl where
-    go : (o : Option Fed) → fed_of first_match j ≡ o → fed_of first_match j ≡ None
+  left_free : (i j level : ℕ) → IsRefused n t rows places i j level → IsFreeOutput first.first_match j
+  left_free i j level r = go (fed_of first.first_match j) refl where
+    go : (o : Option Fed) → fed_of first.first_match j ≡ o → fed_of first.first_match j ≡ None
     go None e = e
     go (Some f) e =
-        elim ((round.pairs f.input j f.level f.kind).0 (Serves-from first_match j f e)) [
+        elim ((first.round.pairs f.input j f.level f.kind).0 (Serves-from first.first_match j f e)) [
           | inl old ↦ absurd (nobody_at_first n f.input j f.level f.kind old)
           | inr accepts ↦
               let taken : Grants n t rows places (unmatched n) f.input j f.level f.kind =
@@ -84,50 +86,47 @@ module _ (n t : ℕ) (rows : List Row) (places : Places) (asks : Asks) (at_ports
               absurd (r.1 (subst R same.2 (subst Q same.1 (subst P same.0 accepts))))
         ]
 
-  -- and some row names it
+  -- what some row names is named
+  named_in : (i j level : ℕ) (kind : Kind) → i < n → level < LEVELS → Names (row_of rows i) level kind j → IsNamed asks j
+  named_in i j level kind i_in level_in named =
+      let set = rank_of Uni level kind in
+      let set_in = rank_of-lt Uni level kind level_in in
+      (set, set_in, first.asked.outputs set i j set_in i_in ((Names-rank_of (row_of rows i) level kind j).0 named))
+
+  -- so is that output
   asked : (i j level : ℕ) → Grants n t rows places (unmatched n) i j level Uni → IsNamed asks j
   asked i j level g = elim g.first.member [
-    | inl free ↦ IsNamed-from n rows asks are i j level Uni g.first.below free.1.level_in free.1.named
-    | inr on ↦ IsNamed-from n rows asks are i j level Multi g.first.below on.level_in on.named
+    | inl free ↦ named_in i j level Uni g.first.below free.1.level_in free.1.named
+    | inr on ↦ named_in i j level Multi g.first.below on.level_in on.named
   ]
 
   pub AreRefused-told : AreRefused n t rows places refused
   AreRefused-told i j level = (
     λ tells.
-        let told = (are_told.told i j level).0 tells in
+        let told = (first.are_told.told i j level).0 tells in
         let j_in = told.0.0.0 in (
           granted i j level j_in told.1,
-          λ accepts. told.0.0.1 ((firsts j).1
-              (j_in, λ free. none-some (record { input = i; level = level; kind = Uni }) (sym free ∙ (round.pairs i j level Uni).1 (inr accepts)))),
+          λ accepts. told.0.0.1 ((first.firsts j).1
+              (j_in, λ free. none-some (record { input = i; level = level; kind = Uni }) (sym free ∙ (first.round.pairs i j level Uni).1 (inr accepts)))),
         ),
     λ r.
         let first_kind = preferred t in
         let g = r.0 in
-        let chosen : GrantsUnicast n (preferred t) asks are_told.ready places i j level = (
+        let chosen : GrantsUnicast n (preferred t) asks first.are_told.ready places i j level = (
           rank_of first_kind level Uni,
-          chosen_from_grants n t rows asks are_told.ready (unmatched n) are are_told.readies j g.output_in places (fed_of-unmatched n j) i level Uni g,
+          chosen_from_grants n t rows asks first.are_told.ready (unmatched n) first.asked first.are_told.readies j g.output_in places (fed_of-unmatched n j)
+              i level Uni g,
           kind_at-rank_of first_kind level Uni,
           sym (level_at-rank_of first_kind level Uni),
         ) in
-        (are_told.told i j level).1 (((g.output_in, λ has. ((firsts j).0 has).1 (left_free i j level r)), asked i j level g), chosen),
+        (first.are_told.told i j level).1 (((g.output_in, λ has. ((first.firsts j).0 has).1 (left_free i j level r)), asked i j level g), chosen),
   )
 
 -- the first of some rounds
-first_round : (n t : ℕ) (rows : List Row) (places : Places) (steps : List (List (Option Fed))) → 0 < length steps
+pub first_round : (n t : ℕ) (rows : List Row) (places : Places) (steps : List (List (Option Fed))) → 0 < length steps
     → AreRounds n t rows places (unmatched n) steps → IsRound n t rows places (unmatched n) (slice_index_or steps 0 (unmatched n))
 first_round n t rows places [] some chain = absurd (omega arith)
 first_round n t rows places (step ∷ steps) some chain = chain.0
-
--- the same of the rounds of a slot
-pub AreRefused-from : (n t rounds : ℕ) (rows : List Row) (places : Places) (first_kind : Kind) (asks : Asks) → AreAtPorts places → places.ports ≡ n
-    → first_kind ≡ preferred t → AreAsks n rows asks → (matched : List (Option Fed)) (made : Made) → 0 < rounds
-    → AreMade n rounds t rows places matched made → (refused : Refused)
-    → AreToldOf n first_kind asks places (λ j. ((j < n) × (Has made.first_outputs j → ⊥)) × IsNamed asks j) refused → AreRefused n t rows places refused
-AreRefused-from n t rounds rows places first_kind asks at_ports ports first_is are matched made some are_made refused told =
-    let P : Kind → Type 0 = λ k. AreToldOf n k asks places (λ j. ((j < n) × (Has made.first_outputs j → ⊥)) × IsNamed asks j) refused in
-    let count = are_made.count in
-    AreRefused-told n t rows places asks at_ports ports are (slice_index_or are_made.steps 0 (unmatched n))
-    (first_round n t rows places are_made.steps (omega arith) are_made.chain) made.first_outputs are_made.firsts refused (subst P first_is told)
 
 -- what is told of a slot is of its switch
 pub AreToldWithin-refused : (n t : ℕ) (rows : List Row) (places : Places) (refused : Refused) → AreRefused n t rows places refused → AreToldWithin n refused

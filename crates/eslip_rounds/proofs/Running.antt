@@ -1,10 +1,9 @@
 -- Rounds one after another, with their numbers.
-use Rattle.std.proofs.Common.{◌≡◌, ℕ, ◌+◌, ◌-◌, ◌<◌, ◌≤◌, ◌↔◌, ◌∙◌, List, [], ◌∷◌, ◌++◌, Option, None, Some, length, map, slice_index_or, refl, sym, ap}
+use Rattle.std.proofs.Common.{◌≡◌, ℕ, ◌+◌, ◌-◌, ◌<◌, ◌↔◌, ◌∙◌, List, [], ◌∷◌, ◌++◌, Option, None, Some, length, map, slice_index_or, refl, sym, ap}
 use Rattle.std.proofs.Common.{subst, inl, inr, arith, length-append}
 use Rattle.std.proofs.lemmas.Option.{none-some}
 use Rattle.std.proofs.lemmas.List.{length-map, get_or_append_left}
 use Rattle.rotating_pick.specs.PortSets.{Has}
-use Rattle.rotating_pick.specs.declared.kinds.Kind.{Kind}
 use Rattle.rotating_pick.specs.declared.kinds.Kind.TheVariants.{Uni}
 use Rattle.slot_match.specs.declared.rows.Row.{Row}
 use Rattle.slot_match.specs.declared.matching.Fed.{Fed}
@@ -15,6 +14,8 @@ use Rattle.islip_rounds.specs.declared.numbers.RoundsUsed.{RoundsUsed}
 use Rattle.islip_rounds.specs.Numbers.{last_of, matched_count, added_from, numbers_of, slot_numbers}
 use Rattle.islip_rounds.proofs.Lasts.{last_of-append, added_from-append, length-added_from}
 use Rattle.eslip_rounds.specs.Rounds.{IsRound, AreRounds}
+use Rattle.eslip_rounds.specs.Steps.{AreMade}
+use Rattle.eslip_rounds.proofs.Bests.{AreAmong}
 
 -- one more round at the end
 pub AreRounds-append : (n t : ℕ) (rows : List Row) (places : Places) (before after : List (Option Fed)) (steps : List (List (Option Fed)))
@@ -24,85 +25,96 @@ AreRounds-append n t rows places before after (step ∷ steps) chain next = (cha
 
 -- what is matched stays matched
 pub AreRounds-keep : (n t : ℕ) (rows : List Row) (places : Places) (before : List (Option Fed)) (steps : List (List (Option Fed)))
-    → AreRounds n t rows places before steps → (i j level : ℕ) (kind : Kind) → Serves before i j level kind → Serves (last_of before steps) i j level kind
+    → AreRounds n t rows places before steps → AreAmong (Serves before) (Serves (last_of before steps))
 AreRounds-keep n t rows places before [] chain i j level kind s = s
 AreRounds-keep n t rows places before (step ∷ steps) chain i j level kind s =
     AreRounds-keep n t rows places step steps chain.1 i j level kind ((chain.0.pairs i j level kind).1 (inl s))
 
--- k rounds from nothing matched made this match, `first_match` being the match after the first of them
-pub record IsRun (n k t : ℕ) (rows : List Row) (places : Places) (first_match now : List (Option Fed)) (matched : ℕ) (numbers : RoundsUsed) : Type 0 where
+-- what the rounds of a slot made so far: how many they are, their match and its numbers, and the outputs that the first matched
+pub record SoFar : Type 0 where
+  pub done : ℕ
+  pub now : List (Option Fed)
+  pub numbers : RoundsUsed
+  pub met : ℕ
+
+-- rounds from nothing matched made this
+pub record IsDecided (n t : ℕ) (rows : List Row) (places : Places) (s : SoFar) : Type 0 where
   pub steps : List (List (Option Fed))
-  pub count : length steps ≡ k
+  pub count : length steps ≡ s.done
   pub some : 0 < length steps
   pub chain : AreRounds n t rows places (unmatched n) steps
-  pub result : now ≡ last_of (unmatched n) steps
-  pub opening : first_match ≡ slice_index_or steps 0 (unmatched n)
-  pub kept : (i j level : ℕ) (kind : Kind) → Serves first_match i j level kind → Serves now i j level kind
-  pub counted : matched ≡ matched_count now
-  pub numbered : numbers ≡ slot_numbers steps
+  pub result : s.now ≡ last_of (unmatched n) steps
+  pub numbered : s.numbers ≡ slot_numbers steps
+  pub mets : (j : ℕ) → Has s.met j ↔ ((j < n) × (IsFreeOutput (slice_index_or steps 0 (unmatched n)) j → ⊥))
 
-module _ (n t : ℕ) (rows : List Row) (places : Places) where
+-- one more round makes this match and these numbers
+pub record IsNext (n t : ℕ) (rows : List Row) (places : Places) (s : SoFar) (after : List (Option Fed)) (more : RoundsUsed) : Type 0 where
+  pub round : IsRound n t rows places s.now after
+  pub numbered : (each : List ℕ) → length each ≡ s.done → s.numbers ≡ numbers_of each
+      → more ≡ numbers_of (each ++ (matched_count after - matched_count s.now) ∷ [])
+
+module _ (n t : ℕ) (rows : List Row) (places : Places) (s : SoFar) where
   -- after the first round
-  pub IsRun-first : (now : List (Option Fed)) (matched : ℕ) (numbers : RoundsUsed) → IsRound n t rows places (unmatched n) now → matched ≡ matched_count now
-      → numbers ≡ numbers_of (matched ∷ []) → IsRun n 1 t rows places now now matched numbers
-  IsRun-first now matched numbers round counted numbered = record {
-    steps = now ∷ [];
-    count = refl;
+  pub IsDecided-first : s.done ≡ 1 → IsRound n t rows places (unmatched n) s.now → s.numbers ≡ numbers_of (matched_count s.now ∷ [])
+      → ((j : ℕ) → Has s.met j ↔ ((j < n) × (IsFreeOutput s.now j → ⊥))) → IsDecided n t rows places s
+  IsDecided-first one round numbered mets = record {
+    steps = s.now ∷ [];
+    count = sym one;
     some = omega arith;
     chain = (round, tt);
     result = refl;
-    opening = refl;
-    kept = λ i j level kind s. s;
-    counted = counted;
-    numbered = let from_nothing : matched ≡ matched_count now - 0 = omega arith in numbered ∙ ap (λ k. numbers_of (k ∷ [])) from_nothing;
+    numbered = let from_nothing : matched_count s.now ≡ matched_count s.now - 0 = omega arith in numbered ∙ ap (λ k. numbers_of (k ∷ [])) from_nothing;
+    mets = mets;
   }
 
   -- after one more round
-  pub IsRun-next : (k : ℕ) (first_match now after : List (Option Fed)) (matched later : ℕ) (numbers more : RoundsUsed)
-      → IsRun n k t rows places first_match now matched numbers → IsRound n t rows places now after → later ≡ matched_count after
-      → ((each : List ℕ) → length each ≡ k → numbers ≡ numbers_of each → more ≡ numbers_of (each ++ (later - matched) ∷ []))
-      → IsRun n (k + 1) t rows places first_match after later more
-  IsRun-next k first_match now after matched later numbers more run round counted numbered =
-      let each = added_from 0 (map matched_count run.steps) in
-      let long : length each ≡ k = length-added_from 0 (map matched_count run.steps) ∙ (length-map run.steps matched_count ∙ run.count) in
+  pub IsDecided-next : (after : List (Option Fed)) (more : RoundsUsed) → IsDecided n t rows places s → IsNext n t rows places s after more
+      → IsDecided n t rows places (record { done = s.done + 1; now = after; numbers = more; met = s.met })
+  IsDecided-next after more decided next =
+      let steps = decided.steps in
+      let each = added_from 0 (map matched_count steps) in
+      let long : length each ≡ s.done = length-added_from 0 (map matched_count steps) ∙ (length-map steps matched_count ∙ decided.count) in
+      let opening = get_or_append_left steps (after ∷ []) (unmatched n) 0 decided.some in
       record {
-        steps = run.steps ++ after ∷ [];
-        count = length-append run.steps (after ∷ []) ∙ ap (λ m. m + 1) run.count;
-        some = omega (arith, length-append run.steps (after ∷ []));
-        chain = AreRounds-append n t rows places (unmatched n) after run.steps run.chain (subst (λ m. IsRound n t rows places m after) run.result round);
-        result = sym (last_of-append (unmatched n) after run.steps);
-        opening = run.opening ∙ sym (get_or_append_left run.steps (after ∷ []) (unmatched n) 0 run.some);
-        kept = λ i j level kind s. (round.pairs i j level kind).1 (inl (run.kept i j level kind s));
-        counted = counted;
-        numbered = numbered each long run.numbered ∙ ap numbers_of (sym (grown run.steps run.some run.result run.counted));
+        steps = steps ++ after ∷ [];
+        count = length-append steps (after ∷ []) ∙ ap (λ m. m + 1) decided.count;
+        some = omega (arith, length-append steps (after ∷ []));
+        chain = AreRounds-append n t rows places (unmatched n) after steps decided.chain
+            (subst (λ m. IsRound n t rows places m after) decided.result next.round);
+        result = sym (last_of-append (unmatched n) after steps);
+        numbered = next.numbered each long decided.numbered ∙ ap numbers_of (sym (grown steps decided.some decided.result));
+        mets = subst (λ (m : List (Option Fed)). (j : ℕ) → Has s.met j ↔ ((j < n) × (IsFreeOutput m j → ⊥))) (sym opening) decided.mets;
       } where
-        grown : (steps : List (List (Option Fed))) → 0 < length steps → now ≡ last_of (unmatched n) steps → matched ≡ matched_count now
-            → added_from 0 (map matched_count (steps ++ after ∷ [])) ≡ added_from 0 (map matched_count steps) ++ (later - matched) ∷ []
-        grown [] some result counts = absurd (omega arith)
-        grown (step ∷ steps) some result counts =
-            let last_count : matched_count (last_of step steps) ≡ matched = sym (counts ∙ ap matched_count result) in
+        grown : (steps : List (List (Option Fed))) → 0 < length steps → s.now ≡ last_of (unmatched n) steps
+            → added_from 0 (map matched_count (steps ++ after ∷ []))
+            ≡ added_from 0 (map matched_count steps) ++ (matched_count after - matched_count s.now) ∷ []
+        grown [] some result = absurd (omega arith)
+        grown (step ∷ steps) some result =
             ap (λ rest. (matched_count step - 0) ∷ rest)
             (added_from-append matched_count step after steps
-            ∙ ap (λ d. added_from (matched_count step) (map matched_count steps) ++ d ∷ [])
-            (ap (λ m. matched_count after - m) last_count ∙ ap (λ m. m - matched) (sym counted)))
+            ∙ ap (λ m. added_from (matched_count step) (map matched_count steps) ++ (matched_count after - matched_count m) ∷ []) (sym result))
 
--- after k rounds the match, its numbers and the set of outputs that the first round matched
-pub record IsDecided (n k t : ℕ) (rows : List Row) (places : Places) (now : List (Option Fed)) (matched : ℕ) (numbers : RoundsUsed) (met : ℕ) : Type 0 where
-  pub first_match : List (Option Fed)
-  pub run : IsRun n k t rows places first_match now matched numbers
-  pub whole : IsMatch n now
-  pub mets : (j : ℕ) → Has met j ↔ ((j < n) × (IsFreeOutput first_match j → ⊥))
-  pub used : numbers.used ≤ k
+  -- the rounds that were made
+  pub AreMade-from : (rounds : ℕ) → s.done ≡ rounds → IsDecided n t rows places s
+      → AreMade n rounds t rows places s.now (record { numbers = s.numbers; first_outputs = s.met })
+  AreMade-from rounds end decided =
+      record {
+        steps = decided.steps;
+        count = decided.count ∙ end;
+        chain = decided.chain;
+        result = decided.result;
+        numbered = decided.numbered;
+        firsts = decided.mets;
+      }
 
 -- what the first of some rounds matched stays matched
 pub first_kept : (n t : ℕ) (rows : List Row) (places : Places) (steps : List (List (Option Fed))) → 0 < length steps
-    → AreRounds n t rows places (unmatched n) steps → (i j level : ℕ) (kind : Kind) → Serves (slice_index_or steps 0 (unmatched n)) i j level kind
-    → Serves (last_of (unmatched n) steps) i j level kind
+    → AreRounds n t rows places (unmatched n) steps → AreAmong (Serves (slice_index_or steps 0 (unmatched n))) (Serves (last_of (unmatched n) steps))
 first_kept n t rows places [] some chain i j level kind s = absurd (omega arith)
 first_kept n t rows places (step ∷ steps) some chain i j level kind s = AreRounds-keep n t rows places step steps chain.1 i j level kind s
 
 module _ (n : ℕ) (first_match now : List (Option Fed)) (met : ℕ) (whole : IsMatch n now)
-    (kept : (i j level : ℕ) (kind : Kind) → Serves first_match i j level kind → Serves now i j level kind)
+    (kept : AreAmong (Serves first_match) (Serves now))
     (mets : (j : ℕ) → Has met j ↔ ((j < n) × (IsFreeOutput first_match j → ⊥))) where
   -- the unicast pairs of the first round are those of the outputs that it matched
   pub Serves-met : (i j level : ℕ) → (Has met j × Serves now i j level Uni) ↔ Serves first_match i j level Uni

@@ -32,10 +32,6 @@ takes_some : (kind : Kind) (n from offered j : ℕ) → from < n → j < n → H
 takes_some Uni n from offered j from_in j_in has = IsFirstFrom-some n from (Has offered) (Has-or offered) from_in j j_in has
 takes_some Multi n from offered j from_in j_in has = (j, has)
 
-takes_one : (kind : Kind) (n from offered j k : ℕ) → from < n → kind ≡ Uni → Takes kind n from (Has offered) j → Takes kind n from (Has offered) k → j ≡ k
-takes_one Uni n from offered j k from_in e a b = IsFirstFrom-only n from (Has offered) j k from_in a b
-takes_one Multi n from offered j k from_in e a b = absurd (cc)
-
 module _ (n : ℕ) (first_kind : Kind) (places : Places) (offers : Offers) (i : ℕ) (old : List (Option Fed)) (whole : IsMatch n old)
     (opens : IsOpen n first_kind old offers i) (level from taken : ℕ) (kind : Kind) (level_is : level ≡ level_at (slice_index offers.ranks i))
     (kind_is : kind ≡ kind_at first_kind (slice_index offers.ranks i)) (from_is : from ≡ accept_of places i level) (from_in : from < n)
@@ -56,7 +52,9 @@ module _ (n : ℕ) (first_kind : Kind) (places : Places) (offers : Offers) (i : 
       record {
         some = (some.0, (takes some.0).1 some.1);
         free = λ j has. opens.free j (offered j has);
-        one = λ uni j k a b. takes_one kind n from (slice_index offers.outputs i) j k from_in uni ((takes j).0 a) ((takes k).0 b);
+        one = λ uni j k a b.
+            let T : ℕ → Kind → Type 0 = λ y q. Takes q n from (Has (slice_index offers.outputs i)) y in
+            IsFirstFrom-only n from (Has (slice_index offers.outputs i)) j k from_in (subst (T j) uni ((takes j).0 a)) (subst (T k) uni ((takes k).0 b));
         ready = ready_here;
       }
 

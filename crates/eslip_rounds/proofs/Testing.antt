@@ -102,7 +102,7 @@ module _ (n : ℕ) (rows : List Row) (before : List (Option Fed)) (whole : IsMat
       Decides-like (is_going_on rows before i j level kind)
       (λ p. record {
         level_in = level_in;
-        going_on = record { some = p.1.0; only = λ y other also s. Serves-alike n before whole i y p.1.0.0 other level also Multi s p.1.0.1 };
+        going_on = record { some = p.1.0; only = Serves-alike n before whole i p.1.0.0 level Multi p.1.0.1 };
         multicast = p.0;
         named = p.1.1;
       })

@@ -5,7 +5,6 @@ use Rattle.std.proofs.lemmas.List.{ext_get_or}
 use Rattle.std.proofs.lemmas.Nat.{mod_below}
 use Rattle.std.proofs.lemmas.Option.{same_Some, none-some}
 use Rattle.rotating_pick.specs.Rotation.{IsFirstFrom}
-use Rattle.rotating_pick.specs.declared.kinds.Kind.{Kind}
 use Rattle.rotating_pick.specs.declared.kinds.Kind.TheVariants.{Uni, Multi}
 use Rattle.rotating_pick.specs.declared.limits.TheConstants.{LEVELS}
 use Rattle.rotating_pick.proofs.First.{IsFirstFrom-only}
@@ -21,7 +20,7 @@ use Rattle.pointer_state.proofs.Same.{AreAlike, Places-same}
 use Rattle.islip_rounds.specs.Numbers.{last_of, slot_numbers}
 use Rattle.eslip_rounds.specs.Rounds.{Grants, IsRound, AreRounds}
 use Rattle.eslip_rounds.specs.Slots.{Decision, Moving, AreMoved, IsSlotBy, IsSlot}
-use Rattle.eslip_rounds.proofs.Bests.{taken_from}
+use Rattle.eslip_rounds.proofs.Bests.{AreAmong, taken_from}
 use Rattle.eslip_rounds.proofs.Deciding.{some_below, Completes-or, HasHead-decides}
 use Rattle.eslip_rounds.proofs.Matching.{IsMatch-rounds}
 
@@ -193,28 +192,28 @@ module _ (n rounds t : ℕ) (rows : List Row) (places : Places) (within : AreWit
   ArePointing-slot a r = ArePointing-moved n t rows (slice_index_or r.steps 0 (unmatched n)) a.matched places within
       (first_of_slot r.steps r.chain) at_ports ports some_ports a.places r.moved
 
--- what is matched was named
+-- what is matched is named
+abbrev pub AreAllNamed : List Row → List (Option Fed) → Type 0
+AreAllNamed rows matched = AreAmong (Serves matched) (λ i j level kind. Names (row_of rows i) level kind j)
+
 named_rounds : (n t : ℕ) (rows : List Row) (places : Places) (before : List (Option Fed)) (steps : List (List (Option Fed)))
-    → AreRounds n t rows places before steps → (i j level : ℕ) (kind : Kind) → (Serves before i j level kind → Names (row_of rows i) level kind j)
-    → Serves (last_of before steps) i j level kind → Names (row_of rows i) level kind j
-named_rounds n t rows places before [] chain i j level kind known s = known s
-named_rounds n t rows places before (step ∷ steps) chain i j level kind known s =
-    named_rounds n t rows places step steps chain.1 i j level kind
-    (λ h. elim ((chain.0.pairs i j level kind).0 h) [
-      | inl old ↦ known old
+    → AreRounds n t rows places before steps → AreAllNamed rows before → AreAllNamed rows (last_of before steps)
+named_rounds n t rows places before [] chain known = known
+named_rounds n t rows places before (step ∷ steps) chain known =
+    named_rounds n t rows places step steps chain.1
+    (λ i j level kind s. elim ((chain.0.pairs i j level kind).0 s) [
+      | inl old ↦ known i j level kind old
       | inr a ↦
           let g : Grants n t rows places before i j level kind =
           taken_from kind n (accept_of places i level) (λ y. Grants n t rows places before i y level kind) j a.taken in
           elim g.first.member [ inl p ↦ p.1.named | inr on ↦ subst (λ k. Names (row_of rows i) level k j) (sym on.multicast) on.named ]
-    ]) s
+    ])
 
-pub Serves-named_by : (Moves : Moving) (n rounds t : ℕ) (rows : List Row)
-    (places : Places) (a : Decision) → IsSlotBy Moves n rounds t rows places a → (i j level : ℕ) (kind : Kind) → Serves a.matched i j level kind
-    → Names (row_of rows i) level kind j
-Serves-named_by Moves n rounds t rows places a r i j level kind s =
-    named_rounds n t rows places (unmatched n) r.steps r.chain i j level kind (λ h. absurd (nobody_at_first n i j level kind h))
-    (subst (λ m. Serves m i j level kind) r.result s)
+pub Serves-named_by : (Moves : Moving) (n rounds t : ℕ) (rows : List Row) (places : Places) (a : Decision) → IsSlotBy Moves n rounds t rows places a
+    → AreAllNamed rows a.matched
+Serves-named_by Moves n rounds t rows places a r =
+    subst (AreAllNamed rows) (sym r.result)
+    (named_rounds n t rows places (unmatched n) r.steps r.chain (λ i j level kind s. absurd (nobody_at_first n i j level kind s)))
 
-pub Serves-named : (n rounds t : ℕ) (rows : List Row) (places : Places) (a : Decision) → IsSlot n rounds t rows places a → (i j level : ℕ) (kind : Kind)
-    → Serves a.matched i j level kind → Names (row_of rows i) level kind j
+pub Serves-named : (n rounds t : ℕ) (rows : List Row) (places : Places) (a : Decision) → IsSlot n rounds t rows places a → AreAllNamed rows a.matched
 Serves-named = Serves-named_by AreMoved

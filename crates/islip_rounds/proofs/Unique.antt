@@ -1,6 +1,6 @@
 -- A slot leaves no choice: its match, its numbers and its pointers follow from what is asked and from the
 -- pointers before it.
-use Rattle.std.proofs.Common.{◌≡◌, ℕ, ◌⊎◌, ◌∙◌, List, [], ◌∷◌, Option, None, Some, length, map, slice_index, slice_index_or, refl, sym, ap, inl, inr, arith}
+use Rattle.std.proofs.Common.{◌≡◌, ℕ, ◌⊎◌, ◌∙◌, List, [], ◌∷◌, Option, None, Some, length, map, slice_index, slice_index_or, refl, sym, inl, inr, arith}
 use Rattle.std.proofs.lemmas.Bool.{cases_lt}
 use Rattle.std.proofs.lemmas.List.{get_or_past}
 use Rattle.std.proofs.lemmas.Option.{none-some}
@@ -52,8 +52,8 @@ module _ (n : ℕ) (asks : List ℕ) (pointers : UniPointers) where
       same_option (slice_index_or c j None) (slice_index_or d j None) (λ i feeds. after_round a b c d same r s i j feeds)
       (λ i feeds. after_round b a d c (back a b same) s r i j feeds)
 
-  pub last_only : (a b : List (Option ℕ)) (steps others : List (List (Option ℕ))) → AreSame a b → length steps ≡ length others → AreRounds n asks pointers a steps
-      → AreRounds n asks pointers b others → AreSame (last_of a steps) (last_of b others)
+  pub last_only : (a b : List (Option ℕ)) (steps others : List (List (Option ℕ))) → AreSame a b → length steps ≡ length others
+      → AreRounds n asks pointers a steps → AreRounds n asks pointers b others → AreSame (last_of a steps) (last_of b others)
   last_only a b [] [] same long r s = same
   last_only a b [] (d ∷ others) same long r s = absurd (omega arith)
   last_only a b (c ∷ steps) [] same long r s = absurd (omega arith)

@@ -53,8 +53,8 @@ module _ (n t : ℕ) (rows : List Row) where
       let g = a.best.there in
       let level_in = level_asked rows before i g.0 level kind g.1.first.member in
       let there : IsAccepted n t p (Grants n t rows q before) i j level kind =
-      IsAccepted-along n t p (Grants n t rows p before) (Grants n t rows q before) i j level kind
-      (λ y m k. (Grants-same p q same before i y m k, Grants-same q p (AreSame-sym n p q same) before i y m k)) a in
+      IsAccepted-along n t p (Grants n t rows p before) (Grants n t rows q before)
+      (λ x y m k. (Grants-same p q same before x y m k, Grants-same q p (AreSame-sym n p q same) before x y m k)) i j level kind a in
       record {
         best = there.best;
         taken = subst (λ from. Takes kind n from (λ y. Grants n t rows q before i y level kind) j) (same.accept i level g.1.first.below level_in) there.taken;

@@ -1,10 +1,8 @@
 -- What each call makes of a seat.
-use Rattle.std.proofs.Common.{◌≡◌, ◌∙◌, ℕ, ◌+◌, ◌<◌, ◌||◌, Bool, true, false, List, [], ◌∷◌, ◌++◌, length, Option, refl, sym, ap, subst, arith}
+use Rattle.std.proofs.Common.{◌≡◌, ◌∙◌, ℕ, ◌+◌, ◌<◌, ◌||◌, Bool, true, false, List, [], ◌∷◌, ◌++◌, length, refl, sym, ap, subst, arith}
 use Rattle.std.proofs.lemmas.List.Folds.{list_any-append}
 use Rattle.std.proofs.lemmas.List.{length_push}
 use Rattle.std.proofs.lemmas.Bool.{both_ways}
-use Rattle.slot_match.specs.declared.rows.Row.{Row}
-use Rattle.slot_match.specs.declared.matching.Served.{Served}
 use Rattle.crossbar.specs.declared.cards.Post.{Post as CardPost}
 use Rattle.crossbar.specs.declared.cards.Taken.{Taken}
 use Rattle.slot_histories.specs.declared.events.Event.{Event}
@@ -19,23 +17,15 @@ use Rattle.slot_histories.proofs.Telling.{IsTold-legal}
 use Rattle.slot_board.specs.Seats.{column_at, setup_at, events_seen, slot_of, IsPosted, refusals, events_before, HasCardTurn, HasPosted, HasTaken}
 use Rattle.slot_board.specs.Seats.{IsUndecided}
 use Rattle.slot_board.specs.Columns.{IsBoard}
-use Rattle.slot_board.specs.ColumnSteps.{IsCardSeat}
 use Rattle.slot_board.specs.Calls.{IsSeat, AfterPost, AfterTaking, AfterRefusal}
 use Rattle.slot_board.proofs.RefusedTries.{refusals-acted, refusals-idle}
 use Rattle.slot_board.proofs.SeatColumns.{HasPosted-posts, HasPosted-takes, HasPosted-column, HasTaken-posts, HasTaken-takes, HasTaken-column}
 use Rattle.slot_board.proofs.SeatColumns.{IsUndecided-column, takes_of-beyond, between_allowed}
 
 -- what is kept of a seat tells it
-pub IsSeat-kept : (seat : SeatValue Event) (ports card slot : ℕ) (has_posted done : Bool) (last : Row) (served : Option Served) (count : ℕ)
-    (room : List (SeatValue Event)) (capacity : ℕ) → IsCardSeat seat ports card slot has_posted done last served count room capacity → IsSeat seat
-IsSeat-kept seat ports card slot has_posted done last served count room capacity kept =
-    let inside : seat.number < (setup_at seat).ports = let below = kept.card_in in let is = kept.ports_are in let card_is = kept.card_is in omega arith in
-    record {
-      board = kept.board;
-      card_in = inside;
-      legal = kept.column.legal;
-      told = IsTold-legal (setup_at seat) seat.number (events_seen seat) kept.column.legal inside;
-    }
+pub IsSeat-kept : (seat : SeatValue Event) → IsBoard seat.turn → seat.number < (setup_at seat).ports → IsLegal (setup_at seat) (events_seen seat) → IsSeat seat
+IsSeat-kept seat board inside legal =
+    record { board = board; card_in = inside; legal = legal; told = IsTold-legal (setup_at seat) seat.number (events_seen seat) legal inside }
 
 -- after a turn it is told as before
 module _ (adds : List Event → List Event) (old new : SeatValue Event) (between : List (TurnOf Event)) (seat : IsSeat old)

@@ -27,13 +27,6 @@ use Rattle.slot_histories.proofs.SoundDecisions.{decision_at-legal, decision_at-
 not_both : {A : Type 0} (kind again : Kind) → kind ≡ Uni → kind ≡ Multi → A
 not_both kind again uni multi = cc
 
--- a granted cell, against the part for which it was granted
-granted : (card : ℕ) (part : Served) (cell : Option Cell) (found : Cell) (fed : Fed) → cell ≡ Some found → IsGrantedCell card (Some part) cell
-    → card ≡ fed.input → fed.level ≡ part.level → fed.kind ≡ part.kind → IsCellOf fed found
-granted card part cell found fed is grant own level kind =
-    let that = subst (IsGrantedCell card (Some part)) is grant in
-    record { form = that.0; input = that.1 ∙ own; level = that.2 ∙ sym level; kind = that.3 ∙ sym kind }
-
 module _ (s : Setup) (events : List Event) (some : 0 < s.ports) (size : s.ports ≤ MAX_PORTS) (legal : IsLegal s events) where
   named_pair : (t : ℕ) → t < decides events → (i j level : ℕ) (kind : Kind) → i < s.ports → Serves (decision_at s (posted events) t).matched i j level kind
       → Names (posted events i t).row level kind j
@@ -77,8 +70,9 @@ module _ (s : Setup) (events : List Event) (some : 0 < s.ports) (size : s.ports 
         let only = part.2.only j fed.level fed.kind feeds in
         let accepted = (stand.accepted fed.input (suc t) inside (omega (arith, step.decided_posted fed.input inside))).cell in
         let post = (posted events fed.input (suc t)).cell in
-        granted fed.input part.0 post cell fed (sym (posted_cell (suc t) fed.input inside) ∙ is)
-        (subst (λ served. IsGrantedCell fed.input served post) part.1 accepted) refl only.0 only.1
+        let granted = subst (IsGrantedCell fed.input (Some part.0)) (sym (posted_cell (suc t) fed.input inside) ∙ is)
+        (subst (λ served. IsGrantedCell fed.input served post) part.1 accepted) in
+        record { form = granted.0; input = granted.1; level = granted.2 ∙ sym only.0; kind = granted.3 ∙ sym only.1 }
 
     by_feed : (o : Option Fed) → fed_of (decision_at s (posted events) t).matched j ≡ o
         → deposit_by (map (λ post. post.cell) (slot_posts s.ports (posted events) (suc t))) o ≡ Some cell → (fed : Fed)

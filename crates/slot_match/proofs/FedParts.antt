@@ -1,15 +1,14 @@
 -- The parts of a match, when only the outputs that are fed are looked at, in order.
-use Rattle.std.proofs.Common.{◌≡◌, ◌≢◌, ◌∙◌, ℕ, ◌+◌, ◌<◌, ◌≤◌, ◌↔◌, ◌⊎◌, List, Option, None, Some, length, slice_index_or, refl, sym, subst, inl, inr, arith}
-use Rattle.std.proofs.lemmas.Bool.{cases_lt, cases_eq}
+use Rattle.std.proofs.Common.{◌≡◌, ◌∙◌, ℕ, ◌<◌, ◌≤◌, ◌↔◌, List, Option, None, Some, length, slice_index_or, refl, sym, inl, inr, arith}
+use Rattle.std.proofs.lemmas.Bool.{cases_lt}
 use Rattle.std.proofs.lemmas.Option.{none-some}
 use Rattle.rotating_pick.specs.PortSets.{Has}
 use Rattle.slot_match.specs.declared.matching.Fed.{Fed}
 use Rattle.slot_match.specs.declared.matching.Served.{Served}
 use Rattle.slot_match.specs.Matches.{fed_of, IsFreeOutput, IsMatch}
 use Rattle.slot_match.specs.Parts.{served_of}
-use Rattle.slot_match.specs.Steps.{outputs_in, StandsBelow}
-use Rattle.slot_match.proofs.Pairs.{Serves-from, Serves-once}
-use Rattle.slot_match.proofs.PartsBelow.{StandsBelow-other, StandsBelow-added, StandsBelow-all}
+use Rattle.slot_match.specs.Steps.{StandsBelow}
+use Rattle.slot_match.proofs.PartsBelow.{StandsBelow-all}
 
 -- the parts stand as after the first k outputs, and of the others those that are fed are left
 pub record ArePut (matched : List (Option Fed)) (rest : ℕ) (parts : List (Option Served)) (k : ℕ) : Type 0 where
@@ -49,45 +48,18 @@ module _ (matched : List (Option Fed)) (rest : ℕ) (parts : List (Option Served
         let least = first j ((put.left j).1 (late, omega arith, λ none. none-some f (sym none ∙ is))) in
         absurd (omega arith)
 
-  module _ (n : ℕ) (whole : IsMatch n matched) where
-    -- the first that is left is added to the part of its input
-    pub put-more : (o after : ℕ) (new : List (Option Served)) → Has rest o → ((j : ℕ) → Has rest j → o ≤ j)
-        → ((j : ℕ) → Has after j ↔ ((j ≢ o) × Has rest j)) → (f : Fed) → fed_of matched o ≡ Some f → (part : Served) → part.level ≡ f.level
-        → part.kind ≡ f.kind → ((j : ℕ) → Has part.outputs j ↔ ((j ≡ o) ⊎ Has (outputs_in (slice_index_or parts f.input None)) j))
-        → slice_index_or new f.input None ≡ Some part → ((i : ℕ) → i ≢ f.input → slice_index_or new i None ≡ slice_index_or parts i None)
-        → ArePut matched after new (o + 1)
-    put-more o after new member first members f fed part level_is kind_is made here others =
-        let was = (put.left o).0 member in
-        let late = was.0 in
-        let inside = was.1 in
-        let before : (i : ℕ) → i < length matched → StandsBelow matched o i (slice_index_or parts i None) =
-        λ i i_in. stands-to matched k o i (slice_index_or parts i None) late (free-before o (omega arith) first) (put.each i i_in) in
-        record {
-          within = omega arith;
-          left = λ j. (
-            λ has.
-                let p = (members j).0 has in
-                let q = (put.left j).0 p.1 in
-                let least = first j p.1 in
-                let apart = p.0 in
-                (elim (cases_eq j o) [ inl same ↦ absurd (apart same) | inr other ↦ omega arith ], q.1, q.2),
-            λ p. (members j).1 (let past = p.0 in (λ same. absurd (omega arith)), let past = p.0 in (put.left j).1 (omega arith, p.1, p.2)),
-          );
-          each = λ i i_in. elim (cases_eq i f.input) [
-            | inl same ↦ subst (λ x. StandsBelow matched (o + 1) x (slice_index_or new x None)) (sym same)
-                (subst (StandsBelow matched (o + 1) f.input) (sym here)
-                (StandsBelow-added n matched whole o f.input (slice_index_or parts f.input None) f part fed refl level_is kind_is made
-                (before f.input (subst (λ x. x < length matched) same i_in))))
-            | inr other ↦ subst (StandsBelow matched (o + 1) i) (sym (others i other))
-                (StandsBelow-other n matched whole o i (slice_index_or parts i None)
-                (λ level kind s. other (Serves-once matched o i f.input level f.level kind f.kind s (Serves-from matched o f fed)).0) (before i i_in))
-          ];
-        }
+  -- up to the first that is left, the parts stand as they were put
+  pub stands-before : (o : ℕ) → Has rest o → ((j : ℕ) → Has rest j → o ≤ j) → (i : ℕ) → i < length matched
+      → StandsBelow matched o i (slice_index_or parts i None)
+  stands-before o member first i i_in =
+      let was = (put.left o).0 member in
+      let inside = was.1 in
+      stands-to matched k o i (slice_index_or parts i None) was.0 (free-before o (omega arith) first) (put.each i i_in)
 
-    -- where none is left, these are the parts
-    pub put-all : ((j : ℕ) → Has rest j → ⊥) → (i : ℕ) → i < length matched → slice_index_or parts i None ≡ served_of matched i
-    put-all none i i_in =
-        let count = whole.count in
-        let within = put.within in
-        StandsBelow-all n matched whole i (slice_index_or parts i None)
-        (stands-to matched k n i (slice_index_or parts i None) (omega arith) (free-before n (omega arith) (λ j has. absurd (none j has))) (put.each i i_in))
+  -- where none is left, these are the parts
+  pub put-all : (n : ℕ) → IsMatch n matched → ((j : ℕ) → Has rest j → ⊥) → (i : ℕ) → i < length matched → slice_index_or parts i None ≡ served_of matched i
+  put-all n whole none i i_in =
+      let count = whole.count in
+      let within = put.within in
+      StandsBelow-all n matched whole i (slice_index_or parts i None)
+      (stands-to matched k n i (slice_index_or parts i None) (omega arith) (free-before n (omega arith) (λ j has. absurd (none j has))) (put.each i i_in))

@@ -58,12 +58,16 @@ feeds_of-none inputs marks byte above e =
     fed_of-feeds_of inputs marks j inside
     ∙ (fed_as-none (slice_index inputs j) (level_at marks j) (kind_at marks j) (omega (arith, at)) ∙ sym (get_or-replicate MAX_PORTS j none none inside)))
 
+-- one output is marked with the level and the kind
+pub record IsMarked (before after : Marks) (output l : ℕ) (k : Kind) : Type 0 where
+  pub level : level_at after output ≡ l
+  pub kind : kind_at after output ≡ k
+  pub others : (j : ℕ) → j ≢ output → (level_at after j ≡ level_at before j) × (kind_at after j ≡ kind_at before j)
+
 -- one output is fed anew
 pub feeds_of-set : (inputs : List ℕ) (before after : Marks) (output : ℕ) (by : Fed) → length inputs ≡ MAX_PORTS → output < MAX_PORTS → by.input < MAX_PORTS
-    → level_at after output ≡ by.level → kind_at after output ≡ by.kind
-    → ((j : ℕ) → j ≢ output → (level_at after j ≡ level_at before j) × (kind_at after j ≡ kind_at before j))
-    → feeds_of (set inputs output by.input) after ≡ set (feeds_of inputs before) output (Some by)
-feeds_of-set inputs before after output by long inside port level kind others =
+    → IsMarked before after output by.level by.kind → feeds_of (set inputs output by.input) after ≡ set (feeds_of inputs before) output (Some by)
+feeds_of-set inputs before after output by long inside port marked =
     let none : Option Fed = None in
     let old = feeds_of inputs before in
     let later = set inputs output by.input in
@@ -73,18 +77,18 @@ feeds_of-set inputs before after output by long inside port level kind others =
     let j_in : j < MAX_PORTS = let long_after = length-feeds_of later after in omega arith in
     fed_of-feeds_of later after j j_in
     ∙ elim (cases_eq j output) [
-      | inl same ↦ rw (same, get_or-set_same inputs output by.input 0 (omega arith), level, kind)
+      | inl same ↦ rw (same, get_or-set_same inputs output by.input 0 (omega arith), marked.level, marked.kind)
           (fed_as-some by.input by.level by.kind port ∙ sym (get_or-set_same old output (Some by) none (omega (arith, length-feeds_of inputs before))))
-      | inr other ↦ let alike = others j other in
+      | inr other ↦ let alike = marked.others j other in
           rw (get_or-set_other inputs output j by.input 0 other, alike.0, alike.1)
           (sym (fed_of-feeds_of inputs before j j_in) ∙ sym (get_or-set_other old output j (Some by) none other))
     ])
 
 -- the marks still are of outputs that are fed
-pub AreMarked-set : (inputs : List ℕ) (before after : Marks) (output input : ℕ) → length inputs ≡ MAX_PORTS → output < MAX_PORTS → input < MAX_PORTS
+pub AreMarked-set : (inputs : List ℕ) (before after : Marks) (output input : ℕ) → output < length inputs → input < MAX_PORTS
     → ((j : ℕ) → j ≢ output → kind_at after j ≡ kind_at before j) → AreMarked inputs before → AreMarked (set inputs output input) after
-AreMarked-set inputs before after output input long inside port others marked j multi = elim (cases_eq j output) [
-  | inl same ↦ rw (same, get_or-set_same inputs output input 0 (omega arith)) port
+AreMarked-set inputs before after output input inside port others marked j multi = elim (cases_eq j output) [
+  | inl same ↦ rw (same, get_or-set_same inputs output input 0 inside) port
   | inr other ↦ rw (get_or-set_other inputs output j input 0 other) (marked j (sym (others j other) ∙ multi))
 ]
 
@@ -110,9 +114,8 @@ Serves-marked inputs marks i j level s =
       | inr above ↦ absurd (none-some f (sym (get_or_past (feeds_of inputs marks) j None (let long = length-feeds_of inputs marks in omega arith)) ∙ s))
     ]
 
--- an output whose byte and marks say so is served as multicast
-pub Serves-from_marks : (inputs : List ℕ) (marks : Marks) (i j level : ℕ) → j < MAX_PORTS → slice_index inputs j < MAX_PORTS → slice_index inputs j ≡ i
-    → level_at marks j ≡ level → kind_at marks j ≡ Multi → Serves (feeds_of inputs marks) i j level Multi
-Serves-from_marks inputs marks i j level below port at leveled multi =
-    fed_of-feeds_of inputs marks j below
-    ∙ rw (sym at, sym leveled, sym multi) (fed_as-some (slice_index inputs j) (level_at marks j) (kind_at marks j) port)
+-- the input of an output whose byte and marks say so is served by it as multicast
+pub Serves-from_marks : (inputs : List ℕ) (marks : Marks) (j level : ℕ) → j < MAX_PORTS → slice_index inputs j < MAX_PORTS → level_at marks j ≡ level
+    → kind_at marks j ≡ Multi → Serves (feeds_of inputs marks) (slice_index inputs j) j level Multi
+Serves-from_marks inputs marks j level below port leveled multi =
+    fed_of-feeds_of inputs marks j below ∙ rw (sym leveled, sym multi) (fed_as-some (slice_index inputs j) (level_at marks j) (kind_at marks j) port)

@@ -75,14 +75,15 @@ module _ (n count : ℕ) (table : List (Option Fed)) (free_inputs free_outputs :
       let fed : fed_of m j ≡ Some f = fed_of-take n table j below ∙ e in
       let once = Serves-once m j i f.input there.0 f.level there.1 f.kind there.2 (Serves-from m j f fed) in
       let mine : Serves m i j f.level f.kind = Serves-along m i j there.0 f.level there.1 f.kind once.1 once.2 there.2 in
+      let all = Serves-alike n m whole i j f.level f.kind mine in
       record {
         some = (j, has);
         outputs = λ y. (
-          λ h. let s = (feeds y).0 h in let alike = Serves-alike n m whole i y j s.0 f.level s.1 f.kind s.2 mine in
+          λ h. let s = (feeds y).0 h in let alike = all y s.0 s.1 s.2 in
               Serves-along m i y s.0 f.level s.1 f.kind alike.0 alike.1 s.2,
           λ s. (feeds y).1 (f.level, f.kind, s),
         );
-        only = λ y l k s. Serves-alike n m whole i y j l f.level k f.kind s mine;
+        only = all;
       }
 
   -- an input goes on at the level where it feeds some output as multicast of it
@@ -92,10 +93,7 @@ module _ (n count : ℕ) (table : List (Option Fed)) (free_inputs free_outputs :
         λ s.
             let below : s.0 < n = elim (cases_lt s.0 n) [ inl lt ↦ lt | inr above ↦ absurd (none-some f (sym (kept.beyond s.0 above) ∙ s.1)) ] in
             let mine : Serves (take n table) i s.0 level Multi = fed_of-take n table s.0 below ∙ s.1 in
-            record {
-              some = (s.0, mine);
-              only = λ j other kind r. Serves-alike n (take n table) kept.sets.whole i j s.0 other level kind Multi r mine;
-            },
+            record { some = (s.0, mine); only = Serves-alike n (take n table) kept.sets.whole i s.0 level Multi mine },
         λ on.
             let lt = fed_of-lt (take n table) on.some.0 f on.some.1 in
             let below : on.some.0 < n = let count = kept.sets.whole.count in omega arith in

@@ -35,14 +35,18 @@ pub fed_of-lt : (matched : List (Option Fed)) (j : ℕ) (f : Fed) → fed_of mat
 fed_of-lt matched j f e =
     elim (cases_lt j (length matched)) [ inl below ↦ below | inr above ↦ absurd (none-some f (sym (get_or_past matched j None above) ∙ e)) ]
 
--- an input is served at one level with one kind
-pub Serves-alike : (n : ℕ) (matched : List (Option Fed)) → IsMatch n matched → (i j k l m : ℕ) (a b : Kind) → Serves matched i j l a → Serves matched i k m b
-    → (l ≡ m) × (a ≡ b)
-Serves-alike n matched whole i j k l m a b s r =
-    elim (whole.once i j l a k m b s r) [
+-- all pairs of the input are at the level with the kind
+abbrev pub AreAlike : List (Option Fed) → ℕ → ℕ → Kind → Type 0
+AreAlike matched i level kind = (k other : ℕ) (again : Kind) → Serves matched i k other again → (other ≡ level) × (again ≡ kind)
+
+-- where one of them is
+pub Serves-alike : (n : ℕ) (matched : List (Option Fed)) → IsMatch n matched → (i j level : ℕ) (kind : Kind) → Serves matched i j level kind
+    → AreAlike matched i level kind
+Serves-alike n matched whole i j level kind s k other again r =
+    elim (whole.once i k other again j level kind r s) [
       | inl same ↦
-          let P : ℕ → Type 0 = λ x. Serves matched i x l a in
-          let once = Serves-once matched k i i l m a b (subst P same s) r in
+          let P : ℕ → Type 0 = λ x. Serves matched i x other again in
+          let once = Serves-once matched j i i other level again kind (subst P same r) s in
           (once.1, once.2)
       | inr alike ↦ (alike.0, alike.1 ∙ sym alike.2)
     ]

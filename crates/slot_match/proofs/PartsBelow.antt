@@ -35,14 +35,14 @@ module _ (n : ℕ) (matched : List (Option Fed)) (whole : IsMatch n matched) whe
       }
 
   -- the next output is added to the part of the input that feeds it
-  pub StandsBelow-added : (k i : ℕ) (p : Option Served) (f : Fed) (part : Served) → fed_of matched k ≡ Some f → f.input ≡ i → part.level ≡ f.level
-      → part.kind ≡ f.kind → ((j : ℕ) → Has part.outputs j ↔ ((j ≡ k) ⊎ Has (outputs_in p) j)) → StandsBelow matched k i p
-      → StandsBelow matched (k + 1) i (Some part)
-  StandsBelow-added k i p f part fed same level_is kind_is made before =
-      let there : Serves matched i k f.level f.kind = subst (λ x. Serves matched x k f.level f.kind) same (Serves-from matched k f fed) in
+  pub StandsBelow-added : (k : ℕ) (p : Option Served) (f : Fed) (part : Served) → fed_of matched k ≡ Some f → part.level ≡ f.level → part.kind ≡ f.kind
+      → ((j : ℕ) → Has part.outputs j ↔ ((j ≡ k) ⊎ Has (outputs_in p) j)) → StandsBelow matched k f.input p
+      → StandsBelow matched (k + 1) f.input (Some part)
+  StandsBelow-added k p f part fed level_is kind_is made before =
+      let i = f.input in
+      let there = Serves-from matched k f fed in
       let here : Serves matched i k part.level part.kind = Serves-along matched i k f.level part.level f.kind part.kind (sym level_is) (sym kind_is) there in
-      let alike = λ (j level : ℕ) (kind : Kind)
-      (s : Serves matched i j level kind). Serves-alike n matched whole i j k level part.level kind part.kind s here in
+      let alike = Serves-alike n matched whole i k part.level part.kind here in
       record {
         some = (k, (made k).1 (inl refl));
         outputs = λ j. (
@@ -59,15 +59,16 @@ module _ (n : ℕ) (matched : List (Option Fed)) (whole : IsMatch n matched) whe
         );
         only = λ j level kind below s. alike j level kind s;
       } where
-        held : (o : Option Served) → StandsBelow matched k i o → (j : ℕ) → Has (outputs_in o) j → (j < k) × (level : ℕ) × (kind : Kind)
-            × Serves matched i j level kind
+        held : (o : Option Served) → StandsBelow matched k f.input o → (j : ℕ) → Has (outputs_in o) j → (j < k) × (level : ℕ) × (kind : Kind)
+            × Serves matched f.input j level kind
         held None stands j has = absurd (no_member-zero j has)
         held (Some q) stands j has = let s = (stands.outputs j).0 has in (s.0, q.level, q.kind, s.1)
 
-        listed : (o : Option Served) → StandsBelow matched k i o → (j level : ℕ) (kind : Kind) → j < k → Serves matched i j level kind → Has (outputs_in o) j
+        listed : (o : Option Served) → StandsBelow matched k f.input o → (j level : ℕ) (kind : Kind) → j < k → Serves matched f.input j level kind
+            → Has (outputs_in o) j
         listed None stands j level kind below s = absurd (stands j level kind below s)
         listed (Some q) stands j level kind below s = let a = stands.only j level kind below s in
-            (stands.outputs j).1 (below, Serves-along matched i j level q.level kind q.kind a.0 a.1 s)
+            (stands.outputs j).1 (below, Serves-along matched f.input j level q.level kind q.kind a.0 a.1 s)
 
   -- among all outputs it is the input's part
   pub StandsBelow-all : (i : ℕ) (p : Option Served) → StandsBelow matched n i p → p ≡ served_of matched i

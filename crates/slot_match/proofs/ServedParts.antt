@@ -55,7 +55,7 @@ Has-outputs_of n matched whole i j x level kind there =
           let f = found.0 in
           let whole_fed : Fed = record { input = i; level = f.level; kind = f.kind } in
           let here : Serves matched i j f.level f.kind = found.1 ∙ ap Some (same_fed f whole_fed found.2 refl refl) in
-          let alike = Serves-alike n matched whole i j x f.level level f.kind kind here there in
+          let alike = Serves-alike n matched whole i x level kind there j f.level f.kind here in
           Serves-along matched i j f.level level f.kind kind alike.0 alike.1 here,
       λ s.
           let f : Fed = record { input = i; level = level; kind = kind } in
@@ -105,7 +105,7 @@ served_of-served n matched whole i j level kind s = go (first_from i matched) re
         record {
           some = (found.0, (has found.0).1 there);
           outputs = has;
-          only = λ y l k t. Serves-alike n matched whole i y found.0 l f.level k f.kind t there;
+          only = Serves-alike n matched whole i found.0 f.level f.kind there;
         },
       )
 

@@ -17,7 +17,7 @@ use Rattle.slot_match.specs.Rows.{Names, empty_row, no_row, row_of}
 use Rattle.slot_match.proofs.Sets.{Has-or, zero-has}
 use Rattle.eslip_rounds.specs.OneLevel.{AreUnicastOf}
 use Rattle.eslip_rounds.specs.ColumnSteps.{AreOutputs, IsKeptSet, IsTurned}
-use Rattle.eslip_rounds.proofs.Keeping.{IsKeptSet-first, IsKeptSet-turned}
+use Rattle.eslip_rounds.proofs.Keeping.{IsKeptSet-first, Names-set}
 use Rattle.unicast_slots.specs.RowSteps.{AreKept, AsksNoMore, AsksToo, IsAsked, rows_asking}
 
 -- an empty row names nothing
@@ -133,9 +133,20 @@ module _ (rows : List Row) (columns : List ℕ) (asked : ℕ) (kept : AreKept ro
           size = let size = kept.size in omega (arith, long);
           levels = λ i i_in. levels-asking i (let below = i_in in omega (arith, long));
           unicast = unicast-asking;
-          set = subst (λ (m : ℕ). IsKeptSet m (rows_asking rows input outputs) 0 (slice_set columns j after) later) (sym long)
-              (IsKeptSet-turned (length rows) input rows row 0 outputs columns (slice_set columns j after) asked later input_in input_in names kept.set
-              (length-set columns j after ∙ kept.set.long) turned named);
+          set = subst (λ (m : ℕ). IsKeptSet m (rows_asking rows input outputs) 0 (slice_set columns j after) later) (sym long) (record {
+            long = length-set columns j after ∙ kept.set.long;
+            columns = λ i k k_in.
+                let e = turned i k k_in in
+                let was = kept.set.columns i k k_in in
+                let r = Names-set rows input row input_in i k 0 Uni in (
+                  λ has. elim (e.0 has) [
+                    | inl mine ↦ (let same = mine.0 in omega arith, r.1 (inl (mine.0, (names k).0 mine.1)))
+                    | inr other ↦ let p = was.0 other.1 in (p.0, r.1 (inr (other.0, p.1)))
+                  ],
+                  λ p. e.1 (elim (r.0 p.1) [ inl mine ↦ inl (mine.0, (names k).1 mine.1) | inr other ↦ inr (other.0, was.1 (p.0, other.1)) ]),
+                );
+            outputs = named;
+          });
         }
 
 -- which outputs some input asks for

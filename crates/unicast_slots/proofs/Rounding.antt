@@ -1,27 +1,21 @@
 -- A round of unicast of level 0 is a round of the definition, and rounds one after the other.
-use Rattle.std.proofs.Common.{◌≡◌, ℕ, ◌+◌, ◌-◌, ◌<◌, ◌≤◌, ◌↔◌, ◌⊎◌, ◌∙◌, List, []}
-use Rattle.std.proofs.Common.{◌∷◌, ◌++◌, Option, length, sym, ap, subst, inl, inr, refl, arith, slice_index}
+use Rattle.std.proofs.Common.{◌≡◌, ℕ, ◌+◌, ◌%◌, ◌<◌, ◌↔◌, ◌⊎◌, ◌∙◌, List, [], ◌∷◌, Option, length, refl, sym, ap, subst, inl, inr, arith, slice_index}
 use Rattle.rotating_pick.specs.PortSets.{Has}
 use Rattle.rotating_pick.specs.declared.kinds.Kind.{Kind}
 use Rattle.rotating_pick.specs.declared.kinds.Kind.TheVariants.{Uni, Multi}
 use Rattle.rotating_pick.proofs.First.{IsFirstFrom-along}
 use Rattle.slot_match.specs.declared.rows.Row.{Row}
 use Rattle.slot_match.specs.declared.matching.Fed.{Fed}
-use Rattle.slot_match.specs.Rows.{AreWithin, Names, row_of}
-use Rattle.slot_match.specs.Matches.{IsFreeInput, IsFreeOutput, IsMatch, Serves, unmatched}
-use Rattle.slot_match.proofs.Kept.{IsMatch-unmatched, nobody_at_first}
-use Rattle.pointer_state.specs.Places.{AreAtPorts, Places, accept_of, grant_of}
-use Rattle.islip_rounds.specs.declared.numbers.RoundsUsed.{RoundsUsed}
-use Rattle.islip_rounds.specs.Numbers.{last_of, matched_count, numbers_of}
+use Rattle.slot_match.specs.Rows.{Names, row_of}
+use Rattle.slot_match.specs.Matches.{IsFreeInput, Serves, unmatched}
+use Rattle.slot_match.proofs.Kept.{nobody_at_first}
+use Rattle.pointer_state.specs.Places.{Places, accept_of, grant_of}
+use Rattle.islip_rounds.specs.Numbers.{last_of}
 use Rattle.eslip_rounds.specs.OneLevel.{AreUnicastOf}
 use Rattle.eslip_rounds.specs.Rounds.{Accepts, AreRounds, Grants, IsBest, IsRound, Requests, Takes, preferred}
 use Rattle.eslip_rounds.specs.Slots.{AreMoved}
 use Rattle.eslip_rounds.specs.Steps.{AreMet, AreOffers, IsTaken}
 use Rattle.eslip_rounds.proofs.Bests.{taken_from}
-use Rattle.eslip_rounds.proofs.Decided.{AreMoved-from, unmatched-count}
-use Rattle.eslip_rounds.proofs.EmptyRounds.{IsSettled, IsSettled-round}
-use Rattle.eslip_rounds.proofs.Meeting.{IsPassed-nobody}
-use Rattle.eslip_rounds.proofs.Running.{IsDecided, IsRun-first, IsRun-next}
 use Rattle.unicast_slots.specs.declared.grants.Offers.{Offers}
 use Rattle.unicast_slots.specs.RoundSteps.{GrantsUnicast, offers_of}
 
@@ -120,38 +114,6 @@ module _ (n t : ℕ) (rows : List Row) (places : Places) (unicast : AreUnicastOf
         }
 
 module _ (n t : ℕ) (rows : List Row) (places : Places) where
-  pub IsDecided-first : (made now : List (Option Fed)) (matched : ℕ) (numbers : RoundsUsed) (met : ℕ) → made ≡ unmatched n
-      → IsRound n t rows places made now → IsMatch n now → matched ≡ matched_count now → numbers ≡ numbers_of (matched ∷ []) → numbers.used ≤ 1
-      → ((j : ℕ) → Has met j ↔ ((j < n) × (IsFreeOutput now j → ⊥))) → IsDecided n 1 t rows places now matched numbers met
-  IsDecided-first made now matched numbers met e round whole counted numbered used mets =
-      record {
-        first_match = now;
-        run = IsRun-first n t rows places now matched numbers (subst (λ m. IsRound n t rows places m now) e round) counted numbered;
-        whole = whole;
-        mets = mets;
-        used = used;
-      }
-
-  pub IsDecided-next : (k : ℕ) (now after : List (Option Fed)) (matched later : ℕ) (numbers more : RoundsUsed) (met added : ℕ)
-      → IsDecided n k t rows places now matched numbers met → IsRound n t rows places now after → IsMatch n after → later ≡ matched_count after
-      → added ≡ later - matched → ((each : List ℕ) → length each ≡ k → numbers ≡ numbers_of each → more ≡ numbers_of (each ++ added ∷ [])) → more.used ≤ k + 1
-      → IsDecided n (k + 1) t rows places after later more met
-  IsDecided-next k now after matched later numbers more met added decided round whole counted difference numbered used =
-      record {
-        first_match = decided.first_match;
-        run = IsRun-next n t rows places k decided.first_match now after matched later numbers more decided.run round counted
-            (λ each long e. numbered each long e ∙ ap (λ d. numbers_of (each ++ d ∷ [])) difference);
-        whole = whole;
-        mets = decided.mets;
-        used = used;
-      }
-
-  pub IsSettled-first : (made now : List (Option Fed)) (added : ℕ) → AreAtPorts places → places.ports ≡ n → made ≡ unmatched n
-      → IsRound n t rows places made now → added ≡ matched_count now → IsSettled n t rows places now added
-  IsSettled-first made now added at_ports ports is round counts =
-      IsSettled-round n t rows places (unmatched n) now 0 added added at_ports ports (IsMatch-unmatched n).count
-      (subst (λ m. IsRound n t rows places m now) is round) (sym (unmatched-count n)) counts (omega arith)
-
   module _ (unicast : AreUnicastOf 0 rows) where
     pairs-rounds : (before : List (Option Fed)) (steps : List (List (Option Fed))) → ((i j l : ℕ) (k : Kind) → Serves before i j l k → IsUnicast l k)
         → AreRounds n t rows places before steps → (i j l : ℕ) (k : Kind) → Serves (last_of before steps) i j l k → IsUnicast l k
@@ -170,11 +132,16 @@ module _ (n t : ℕ) (rows : List Row) (places : Places) where
         pairs-rounds (unmatched n) steps (λ i j l k s. absurd (nobody_at_first n i j l k s)) chain i j l k (subst (λ m. Serves m i j l k) result s)
 
     -- no head is posted, so no shared pointer moves
-    pub AreMoved-met : (first_match now : List (Option Fed)) (met : ℕ) (after : Places) → places.ports ≡ n → AreWithin n rows
-        → ((i j level : ℕ) → (Has met j × Serves now i j level Uni) ↔ Serves first_match i j level Uni)
-        → AreMet (λ i j level. Has met j × Serves now i j level Uni) places after → AreMoved n t rows first_match now places after
-    AreMoved-met first_match now met after ports within pairs moved =
-        AreMoved-from n t rows places first_match now met ports within pairs after after moved
-        (λ level level_in. IsPassed-nobody n rows now after after level
-        (λ i i_in head. let never = (unicast i head.0 level Multi head.1).1 in absurd (cc)) refl)
-        (λ level above. refl) refl (λ j level. refl) (λ i level. refl)
+    pub AreMoved-met : (first_match now : List (Option Fed)) (after : Places) → places.ports ≡ n
+        → AreMet (λ i j level. Serves first_match i j level Uni) places after → AreMoved n t rows first_match now places after
+    AreMoved-met first_match now after ports moved =
+        let around = λ (x : ℕ). ap (λ m. (x + 1) % m) ports in
+        record {
+          ports = moved.ports;
+          granted = λ i j level s. moved.granted i j level s ∙ around i;
+          accepted = λ i j level s. moved.accepted i j level s ∙ around j;
+          grant_stays = moved.grant_stays;
+          accept_stays = moved.accept_stays;
+          passed = λ i level f done. let never = (unicast i f.member.0 level Multi f.member.1).1 in absurd (cc);
+          shared_stays = λ level none. moved.shared level;
+        }

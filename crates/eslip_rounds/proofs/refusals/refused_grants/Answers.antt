@@ -22,7 +22,9 @@ loop-j-init c =
       left = asked;
       told = λ i y level. (
         λ tells. absurd (no_member-zero y tells.0),
-        λ p. absurd (p.0.1 ((c.intersection-rest.ensures y).1 ((c.difference-left.ensures y).1 ((c.all.ensures.members y).1 p.0.0.0.0, p.0.0.0.1), (c.named.ensures y).1 p.0.0.1))),
+        λ p.
+            let left = (c.difference-left.ensures y).1 ((c.all.ensures.members y).1 p.0.0.0.0, p.0.0.0.1) in
+            absurd (p.0.1 ((c.intersection-rest.ensures y).1 (left, (c.named.ensures y).1 p.0.0.1))),
       );
     }
 

@@ -1,76 +1,90 @@
-use Rattle.std.proofs.Common.{◌≡◌, ℕ, ◌<◌, ◌↔◌, ◌∙◌, List, [], ◌∷◌, ◌++◌, length, refl, ap, subst, arith}
-use Rattle.islip_rounds.specs.Numbers.{numbers_of}
+use Rattle.std.proofs.Common.{◌≡◌, ℕ, ◌-◌, ◌<◌, ◌↔◌, ◌∙◌, List, [], ◌∷◌, ◌++◌, Option, refl, ap, subst, arith}
 use Rattle.rotating_pick.specs.PortSets.{Has}
-use Rattle.slot_match.specs.Matches.{IsFreeOutput}
-use Rattle.eslip_rounds.proofs.Decided.{IsDecided-first, IsDecided-next, AreMade-from}
-use Rattle.eslip_rounds.proofs.EmptyRounds.{IsSettled-first, IsSettled-next, IsDecided-still}
+use Rattle.slot_match.specs.declared.matching.Fed.{Fed}
+use Rattle.slot_match.specs.Matches.{unmatched, IsFreeOutput}
+use Rattle.slot_match.proofs.Kept.{IsMatch-unmatched}
+use Rattle.islip_rounds.specs.Numbers.{matched_count, numbers_of}
+use Rattle.eslip_rounds.specs.Rounds.{preferred, IsRound}
+use Rattle.eslip_rounds.specs.Steps.{IsStep}
+use Rattle.eslip_rounds.proofs.Decided.{unmatched-count}
+use Rattle.eslip_rounds.proofs.Enough.{settles}
+use Rattle.eslip_rounds.proofs.Rounding.{IsRound-from_step}
+use Rattle.eslip_rounds.proofs.Running.{SoFar, IsDecided-first, IsDecided-next, AreMade-from}
 use Rattle.eslip_rounds.proofs.rounds.make_rounds.Goals as goal
 use Rattle.eslip_rounds.proofs.rounds.make_rounds.Goals.{then-added-gt0, else-added-gt0}
 
 pub loop-done-init : goal.loop-done-init
 loop-done-init c =
     let n = c.args.n in
-    let size : length c.round.new.out ≡ n = c.round.ensures.whole.count in
-    let free : (j : ℕ) → Has c.free_outputs.result j ↔ ((j < n) × IsFreeOutput c.round.new.out j) =
-    subst (λ k. (j : ℕ) → Has c.free_outputs.result j ↔ ((j < k) × IsFreeOutput c.round.new.out j)) size c.free_outputs.ensures in
+    let places = c.args.p.now in
+    let now = c.round.new.out in
+    let whole = c.round.ensures.whole in
+    let counted = c.count-matched.ensures in
+    let numbers = c.after_round-numbers in
+    let met = c.difference-first_outputs.result in
+    let free : (j : ℕ) → Has c.free_outputs.result j ↔ ((j < n) × IsFreeOutput now j) =
+    subst (λ k. (j : ℕ) → Has c.free_outputs.result j ↔ ((j < k) × IsFreeOutput now j)) whole.count c.free_outputs.ensures in
+    let mets : (j : ℕ) → Has met j ↔ ((j < n) × (IsFreeOutput now j → ⊥)) = λ j.
+    let d = c.difference-first_outputs.ensures j in
+    let all = c.all.ensures.members j in
+    (λ has. let p = d.0 has in (all.0 p.0, λ vacant. p.1 ((free j).1 (all.0 p.0, vacant))), λ p. d.1 (all.1 p.0, λ has. p.1 ((free j).0 has).1)) in
     record {
-      whole = c.round.ensures.whole;
-      used = c.after_round-numbers.ensures.used;
-      decided = λ t rows first_is are. (
-        IsDecided-first n t rows c.args.p.now c.args.first_kind first_is c.args.asks.now are c.new.result c.round.new.out c.count-matched.result
-            c.after_round-numbers.result c.difference-first_outputs.result c.new.ensures.value c.round.ensures.step c.round.ensures.whole
-            c.count-matched.ensures
-            (c.after_round-numbers.ensures.numbers [] refl c.none.ensures) c.after_round-numbers.ensures.used
-            (λ j.
-            let d = c.difference-first_outputs.ensures j in
-            let all = c.all.ensures.members j in
-            (λ has. let p = d.0 has in (all.0 p.0, λ vacant. p.1 ((free j).1 (all.0 p.0, vacant))), λ p. d.1 (all.1 p.0, λ has. p.1 ((free j).0 has).1))),
-        IsSettled-first n t rows c.args.p.now c.args.first_kind first_is c.args.asks.now are c.new.result c.round.new.out c.count-matched.result
-            c.requires.at_ports c.requires.ports c.new.ensures.value c.round.ensures.step c.round.ensures.whole c.count-matched.ensures,
-      );
+      whole = whole;
+      counted = counted;
+      used = numbers.ensures.used;
+      decided = λ t rows first_is are.
+          let P : List (Option Fed) → Type 0 = λ m. IsStep n (preferred t) c.args.asks.now places m now in
+          let step = subst P c.new.ensures.value (subst (λ k. IsStep n k c.args.asks.now places c.new.result now) first_is c.round.ensures.step) in
+          let round : IsRound n t rows places (unmatched n) now = IsRound-from_step n t rows places c.args.asks.now (unmatched n) now are step whole.count in
+          let start = unmatched-count n in (
+            IsDecided-first n t rows places (record { done = 1; now = now; numbers = numbers.result; met = met }) refl round
+                (numbers.ensures.numbers [] refl c.none.ensures ∙ ap (λ d. numbers_of (d ∷ [])) counted) mets,
+            λ none. settles n t rows places (unmatched n) now round (IsMatch-unmatched n).count (omega arith),
+          );
     }
 
 pub loop-done-preserved : goal.loop-done-preserved
 loop-done-preserved c =
     let n = c.args.n in
     let places = c.args.p.now in
-    let first_kind = c.args.first_kind in
     let asks = c.args.asks.now in
     let now = c.loop-done.out in
-    let matched = c.loop-done.matched in
     let after = c.after_round-numbers-in-loop-done in
     let known = c.loop-done.invariant in
+    let so_far : SoFar = record { done = c.loop-done.done; now = now; numbers = c.loop-done.numbers; met = c.difference-first_outputs.result } in
     elim c.if-added-gt0.branch [
       | then-added-gt0 w ↦
-          let numbered : (each : List ℕ) → length each ≡ c.loop-done.done → c.loop-done.numbers ≡ numbers_of each
-          → after.result ≡ numbers_of (each ++ w.saturating_sub-added.result ∷ []) = λ each long e. after.ensures.numbers each long e
-          ∙ ap (λ d. numbers_of (each ++ d ∷ [])) w.added-is in
+          let next = w.round-then-added-gt0.new.out in
+          let whole = w.round-then-added-gt0.ensures.whole in
+          let difference : w.saturating_sub-added.result ≡ matched_count next - matched_count now =
+          let a = known.counted in let b = w.count-now.ensures in let e = w.saturating_sub-added.ensures in omega arith in
           rw (w.out-is, w.matched-is, w.added-is) (record {
-            whole = w.round-then-added-gt0.ensures.whole;
+            whole = whole;
+            counted = w.count-now.ensures;
             used = after.ensures.used;
             decided = λ t rows first_is are.
-                let decided = (known.decided t rows first_is are).0 in (
-                  IsDecided-next n t rows places first_kind first_is asks are c.loop-done.done now w.round-then-added-gt0.new.out matched w.count-now.result
-                      c.loop-done.numbers after.result c.difference-first_outputs.result w.saturating_sub-added.result decided
-                      w.round-then-added-gt0.ensures.step w.round-then-added-gt0.ensures.whole w.count-now.ensures w.saturating_sub-added.ensures numbered
-                      after.ensures.used,
-                  IsSettled-next n t rows places first_kind first_is asks are now w.round-then-added-gt0.new.out matched w.count-now.result
-                      w.saturating_sub-added.result c.requires.at_ports c.requires.ports known.whole
-                      w.round-then-added-gt0.ensures.step w.round-then-added-gt0.ensures.whole decided.run.counted w.count-now.ensures
-                      w.saturating_sub-added.ensures,
+                let step = subst (λ k. IsStep n k asks places now next) first_is w.round-then-added-gt0.ensures.step in
+                let round : IsRound n t rows places now next = IsRound-from_step n t rows places asks now next are step whole.count in (
+                  IsDecided-next n t rows places so_far next after.result (known.decided t rows first_is are).0 (record {
+                    round = round;
+                    numbered = λ each long e. after.ensures.numbers each long e ∙ ap (λ d. numbers_of (each ++ d ∷ [])) (w.added-is ∙ difference);
+                  }),
+                  λ none. settles n t rows places now next round known.whole.count (omega (arith, difference)),
                 );
           })
       | else-added-gt0 w ↦
-          let numbered : (each : List ℕ) → length each ≡ c.loop-done.done → c.loop-done.numbers ≡ numbers_of each
-          → after.result ≡ numbers_of (each ++ c.loop-done.added ∷ []) = λ each long e. after.ensures.numbers each long e
-          ∙ ap (λ d. numbers_of (each ++ d ∷ [])) w.added-is in
+          let none : c.loop-done.added ≡ 0 = omega (arith, w.if-added-gt0.false) in
+          let difference : c.loop-done.added ≡ matched_count now - matched_count now = omega arith in
           rw (w.out-is, w.matched-is, w.added-is) (record {
             whole = known.whole;
+            counted = known.counted;
             used = after.ensures.used;
             decided = λ t rows first_is are.
                 let was = known.decided t rows first_is are in (
-                  IsDecided-still n t rows places c.loop-done.done now matched c.loop-done.numbers after.result c.difference-first_outputs.result
-                      c.loop-done.added was.0 was.1 (omega (arith, w.if-added-gt0.false)) numbered after.ensures.used,
+                  IsDecided-next n t rows places so_far now after.result was.0 (record {
+                    round = was.1 none;
+                    numbered = λ each long e. after.ensures.numbers each long e ∙ ap (λ d. numbers_of (each ++ d ∷ [])) (w.added-is ∙ difference);
+                  }),
                   was.1,
                 );
           })
@@ -78,5 +92,6 @@ loop-done-preserved c =
 
 pub returns-clause-made : goal.returns-clause-made
 returns-clause-made c t rows first_is are =
-    AreMade-from c.args.n c.loop-done.done t rows c.args.p.now c.loop-done.out c.loop-done.matched c.loop-done.numbers c.difference-first_outputs.result
-    c.args.rounds (c.loop-done.invariant.decided t rows first_is are).0 (omega arith)
+    AreMade-from c.args.n t rows c.args.p.now
+    (record { done = c.loop-done.done; now = c.loop-done.out; numbers = c.loop-done.numbers; met = c.difference-first_outputs.result })
+    c.args.rounds (omega arith) (c.loop-done.invariant.decided t rows first_is are).0

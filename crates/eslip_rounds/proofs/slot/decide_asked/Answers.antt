@@ -1,8 +1,12 @@
+use Rattle.std.proofs.Common.{◌<◌, slice_index_or, subst, arith}
+use Rattle.rotating_pick.specs.PortSets.{Has}
+use Rattle.rotating_pick.specs.declared.kinds.Kind.{Kind}
+use Rattle.slot_match.specs.Matches.{unmatched}
 use Rattle.eslip_rounds.specs.Slots.{IsSlot}
-use Rattle.eslip_rounds.specs.Steps.{AreMade}
+use Rattle.eslip_rounds.specs.Steps.{IsNamed, AreToldOf, AreMade}
 use Rattle.eslip_rounds.proofs.Decided.{IsSlot-from, enough_rounds, nothing_added}
 use Rattle.eslip_rounds.proofs.Offering.{AreNamed-asks}
-use Rattle.eslip_rounds.proofs.Refusing.{AreRefused-from}
+use Rattle.eslip_rounds.proofs.Refusing.{AreRefused-told, first_round}
 use Rattle.eslip_rounds.proofs.Settling.{decision_of-only}
 use Rattle.eslip_rounds.proofs.slot.decide_asked.Goals as goal
 use Rattle.eslip_rounds.proofs.slot.decide_asked.Goals.{then-turn, else-turn}
@@ -41,11 +45,26 @@ returns-clause-decided c =
 pub returns-clause-refused : goal.returns-clause-refused
 returns-clause-refused c tells =
     elim c.if-turn.branch [
-      | then-turn w ↦ rw w.refused-is
-          (AreRefused-from c.args.n c.args.turn.slot c.args.turn.rounds c.args.rows.now c.args.p.now c.preferred_kind-first_kind.result c.args.asks.now
-          c.ports.ensures.at_ports c.requires.can.pointers c.preferred_kind-first_kind.ensures c.requires.asks c.make_rounds-made.new.out
-          c.make_rounds-made.result c.requires.can.rounds_some
-          (c.make_rounds-made.ensures.made c.args.turn.slot c.args.rows.now c.preferred_kind-first_kind.ensures c.requires.asks) w.refused_grants.new.refused
-          w.refused_grants.ensures)
+      | then-turn w ↦
+          let n = c.args.n in
+          let t = c.args.turn.slot in
+          let rows = c.args.rows.now in
+          let places = c.args.p.now in
+          let asks = c.args.asks.now in
+          let refused = w.refused_grants.new.refused in
+          let first_is = c.preferred_kind-first_kind.ensures in
+          let are = c.make_rounds-made.ensures.made t rows first_is c.requires.asks in
+          let count = are.count in
+          let some = c.requires.can.rounds_some in
+          let P : Kind → Type 0 = λ k. AreToldOf n k asks places
+          (λ j. ((j < n) × (Has c.make_rounds-made.result.first_outputs j → ⊥)) × IsNamed asks j) refused in
+          rw w.refused-is (AreRefused-told n t rows places asks refused c.ports.ensures.at_ports c.requires.can.pointers (record {
+            asked = c.requires.asks;
+            first_match = slice_index_or are.steps 0 (unmatched n);
+            round = first_round n t rows places are.steps (omega arith) are.chain;
+            first_outputs = c.make_rounds-made.result.first_outputs;
+            firsts = are.firsts;
+            are_told = subst P first_is w.refused_grants.ensures;
+          }))
       | else-turn w ↦ absurd (cc)
     ]

@@ -35,9 +35,10 @@ loop-j-preserved c =
                 ) in
                 subst (λ z. Has (slice_index after z) k ↔ (((k ≡ c.args.i) × Has row z × (Has less z → ⊥)) ⊎ Has (slice_index before z) k)) (sym same) at_j
             | inr other ↦
+                let same = was.scattered k y in
                 rw get_or-set_other (
-                  λ has. elim ((was.scattered k y).0 has) [ inl out ↦ inl (out.0, out.1, λ left. out.2 ((taken y).0 left).1) | inr before_too ↦ inr before_too ],
-                  λ s. (was.scattered k y).1 (elim s [ inl new ↦ inl (new.0, new.1, λ left. new.2 ((taken y).1 (other, left))) | inr before_too ↦ inr before_too ]),
+                  λ has. elim (same.0 has) [ inl out ↦ inl (out.0, out.1, λ left. out.2 ((taken y).0 left).1) | inr before_too ↦ inr before_too ],
+                  λ s. same.1 (elim s [ inl new ↦ inl (new.0, new.1, λ left. new.2 ((taken y).1 (other, left))) | inr before_too ↦ inr before_too ]),
                 )
           ];
     }

@@ -3,7 +3,7 @@ use Rattle.std.proofs.lemmas.Option.{same_Some}
 use Rattle.rotating_pick.specs.declared.kinds.Kind.TheVariants.{Uni}
 use Rattle.slot_match.specs.declared.matching.Fed.{Fed}
 use Rattle.slot_match.proofs.Pairs.{same_fed}
-use Rattle.eslip_rounds.proofs.Meeting.{AreMet-one, AreMet-along}
+use Rattle.eslip_rounds.proofs.Meeting.{AreMet-along}
 use Rattle.unicast_slots.proofs.moves.meet_one.Goals as goal
 
 pub returns-in-Some-clause-met : goal.returns-in-Some-clause-met
@@ -21,5 +21,11 @@ returns-in-Some-clause-met c =
           (ap (λ g. g.input) one, p.0, ap (λ g. g.level) one),
     ) in
     AreMet-along (λ i j level. (i ≡ pair.input) × (j ≡ c.args.j) × (level ≡ 0)) _ c.args.p.now c.met.new.self same
-    (AreMet-one pair.input c.args.j 0 c.args.p.now c.met.new.self c.met.ensures.ports c.met.ensures.grant c.met.ensures.accept c.met.ensures.grants
-    c.met.ensures.accepts c.met.ensures.shared)
+    (record {
+      ports = c.met.ensures.ports;
+      granted = λ i j level p. rw (p.0, p.1, p.2) c.met.ensures.grant;
+      accepted = λ i j level p. rw (p.0, p.1, p.2) c.met.ensures.accept;
+      grant_stays = λ j level none. c.met.ensures.grants j level (λ e f. none pair.input (refl, e, f));
+      accept_stays = λ i level none. c.met.ensures.accepts i level (λ e f. none c.args.j (e, refl, f));
+      shared = c.met.ensures.shared;
+    })

@@ -1,4 +1,4 @@
-use Rattle.std.proofs.Common.{◌≡◌, ◌∙◌, ◌<◌, false, sym, ap, subst}
+use Rattle.std.proofs.Common.{◌≡◌, ◌∙◌, ◌<◌, false, sym, ap, subst, arith}
 use Rattle.slot_board.specs.Turns.{setup_of}
 use Rattle.slot_board.specs.Seats.{setup_at, slot_of, IsPosted, is_done, Accepts, HasPosted}
 use Rattle.slot_board.proofs.PostTurns.{posted_turn, kept_then}
@@ -38,6 +38,8 @@ returns-in-Ok-clause-column c = HasPosted-column c.args.post c.args.seat.now c.t
 pub returns-in-Ok-clause-after : goal.returns-in-Ok-clause-after
 returns-in-Ok-clause-after c =
     let s = c.seat.inside in
-    let seat : IsSeat c.args.seat.now =
-    subst IsSeat c.seat.view_is (IsSeat-kept s.seat s.ports s.card s.slot s.posted s.done s.last s.served s.refused s.room.items _ c.seat.invariant) in
+    let kept = c.seat.invariant in
+    let inside : s.seat.number < (setup_at s.seat).ports =
+    let below = kept.card_in in let ports = kept.ports_are in let number = kept.card_is in omega arith in
+    let seat : IsSeat c.args.seat.now = subst IsSeat c.seat.view_is (IsSeat-kept s.seat kept.board inside kept.column.legal) in
     AfterPost-has c.args.post c.args.seat.now c.try_turn.new.seat seat (returns-in-Ok-clause-posted c)

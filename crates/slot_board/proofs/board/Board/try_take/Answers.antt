@@ -1,6 +1,6 @@
-use Rattle.std.proofs.Common.{sym, subst, arith}
+use Rattle.std.proofs.Common.{◌<◌, sym, subst, arith}
 use Rattle.slot_board.specs.DrawingSteps.{drawn_answer}
-use Rattle.slot_board.specs.Seats.{IsPosted, HasTaken, IsUndecided}
+use Rattle.slot_board.specs.Seats.{setup_at, IsPosted, HasTaken, IsUndecided}
 use Rattle.slot_board.proofs.CardTurns.{slot-small}
 use Rattle.slot_board.proofs.Drawings.{ready-is, waiting-is}
 use Rattle.slot_board.proofs.TakeTurns.{taken_turn, kept_taken, undecided_turn, kept_undecided}
@@ -54,13 +54,17 @@ returns-else-drawn-clause-stays c = IsUndecided-column c.in-Ok.drawn.posted c.ar
 pub returns-then-drawn-clause-after : goal.returns-then-drawn-clause-after
 returns-then-drawn-clause-after c =
     let s = c.seat.inside in
-    let seat : IsSeat c.args.seat.now =
-    subst IsSeat c.seat.view_is (IsSeat-kept s.seat s.ports s.card s.slot s.posted s.done s.last s.served s.refused s.room.items _ c.seat.invariant) in
+    let kept = c.seat.invariant in
+    let inside : s.seat.number < (setup_at s.seat).ports =
+    let below = kept.card_in in let ports = kept.ports_are in let number = kept.card_is in omega arith in
+    let seat : IsSeat c.args.seat.now = subst IsSeat c.seat.view_is (IsSeat-kept s.seat kept.board inside kept.column.legal) in
     AfterTaking-has c.in-Ok.drawn.taken c.args.seat.now c.try_turn.new.seat seat c.requires.posted (returns-then-drawn-clause-taken c)
 
 pub returns-else-drawn-clause-refused : goal.returns-else-drawn-clause-refused
 returns-else-drawn-clause-refused c =
     let s = c.seat.inside in
-    let seat : IsSeat c.args.seat.now =
-    subst IsSeat c.seat.view_is (IsSeat-kept s.seat s.ports s.card s.slot s.posted s.done s.last s.served s.refused s.room.items _ c.seat.invariant) in
+    let kept = c.seat.invariant in
+    let inside : s.seat.number < (setup_at s.seat).ports =
+    let below = kept.card_in in let ports = kept.ports_are in let number = kept.card_is in omega arith in
+    let seat : IsSeat c.args.seat.now = subst IsSeat c.seat.view_is (IsSeat-kept s.seat kept.board inside kept.column.legal) in
     AfterRefusal-undecided c.in-Ok.drawn.posted c.args.seat.now c.try_turn.new.seat seat (returns-else-drawn-clause-wait c)

@@ -3,6 +3,7 @@ use Rattle.std.proofs.lemmas.Bool.{cases_eq}
 use Rattle.rotating_pick.specs.declared.kinds.Kind.TheVariants.{Multi}
 use Rattle.rotating_pick.proofs.Bits.{no_member-zero}
 use Rattle.slot_match.specs.Matches.{Serves}
+use Rattle.slot_match.specs.FieldSteps.{feeds_of}
 use Rattle.slot_match.proofs.Sets.{zero-has}
 use Rattle.slot_match.proofs.FeedTables.{Serves-marked, Serves-from_marks}
 use Rattle.slot_match.proofs.feeds.Feeds.multicasting.Goals as goal
@@ -51,7 +52,8 @@ returns c i =
     let level = c.args.level in (
       λ has.
           let p = known.0 has in
-          let here = Serves-from_marks inputs marks i p.0 level p.1 (c.self.invariant p.0 p.3) p.5 p.2 p.3 in
+          let here = subst (λ x. Serves (feeds_of inputs marks) x p.0 level Multi) p.5
+          (Serves-from_marks inputs marks p.0 level p.1 (c.self.invariant p.0 p.3) p.2 p.3) in
           (p.0, subst (λ m. Serves m i p.0 level Multi) c.self.view_is here),
       λ s.
           let p = Serves-marked inputs marks i s.0 level (subst (λ m. Serves m i s.0 level Multi) (sym c.self.view_is) s.1) in

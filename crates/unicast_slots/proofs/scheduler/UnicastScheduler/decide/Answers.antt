@@ -1,7 +1,9 @@
 use Rattle.std.proofs.Common.{ℕ, sym, subst}
-use Rattle.slot_match.specs.Matches.{IsMatch}
+use Rattle.rotating_pick.specs.declared.kinds.Kind.TheVariants.{Uni}
+use Rattle.slot_match.specs.Matches.{IsMatch, Serves}
 use Rattle.eslip_rounds.specs.Slots.{IsSlot}
 use Rattle.eslip_rounds.proofs.Decided.{IsSlot-from, enough_rounds, nothing_added}
+use Rattle.eslip_rounds.proofs.Meeting.{AreMet-along}
 use Rattle.eslip_rounds.proofs.Settling.{decision_of-only}
 use Rattle.unicast_slots.proofs.Rounding.{AreMoved-met, pairs-unicast}
 use Rattle.unicast_slots.proofs.scheduler.UnicastScheduler.decide.Goals as goal
@@ -31,8 +33,8 @@ returns c t =
     let after = c.meet.new.p in
     let slot : IsSlot n rounds t rows places (record { matched = now; numbers = made.numbers; places = after }) =
     IsSlot-from n rounds t rows places now (record { numbers = made.numbers; first_outputs = made.first_outputs }) can.rounds_some are whole after
-    (λ first_match pairs. AreMoved-met n t rows places c.are_unicast.ensures first_match now made.first_outputs after can.pointers can.within pairs
-    c.meet.ensures.met) in
+    (λ first_match pairs. AreMoved-met n t rows places c.are_unicast.ensures first_match now after can.pointers
+    (AreMet-along _ (λ i j level. Serves first_match i j level Uni) places after pairs c.meet.ensures.met)) in
     record {
       slot = slot;
       decision = decision_of-only n t rows places can.within c.ports.ensures.at_ports can.pointers rounds
