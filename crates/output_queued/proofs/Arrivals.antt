@@ -74,15 +74,20 @@ cells-few c j = few-if (has c.fan j) where
   few-if true = omega arith
   few-if false = omega arith
 
-pub unserved-more : (old new : ℕ) (c : Coming) (was now : List Tally) → length now ≡ length was → 0 < c.cells → ((j : ℕ) → Has c.fan j → j < length was)
-    → ((j : ℕ) → tally_at now j ≡ with_cells (tally_at was j) (cells_to (Some c) j))
-    → ((j : ℕ) → Has new j ↔ (Has old j ⊎ Has c.fan j)) → IsUnserved old was → IsUnserved new now
-unserved-more old new c was now long some inside cells members is = record { members = λ j. by j (has c.fan j) refl; behind = λ j. low j } where
+-- the cells of what came were added to the tallies, and its outputs to a set
+pub record HasCome (c : Coming) (was now : List Tally) (old new : ℕ) : Type 0 where
+  pub count : length now ≡ length was
+  pub cells : (j : ℕ) → tally_at now j ≡ with_cells (tally_at was j) (cells_to (Some c) j)
+  pub members : (j : ℕ) → Has new j ↔ (Has old j ⊎ Has c.fan j)
+
+pub unserved-more : (old new : ℕ) (c : Coming) (was now : List Tally) → 0 < c.cells → ((j : ℕ) → Has c.fan j → j < length was)
+    → HasCome c was now old new → IsUnserved old was → IsUnserved new now
+unserved-more old new c was now some inside come is = record { members = λ j. by j (has c.fan j) refl; behind = λ j. low j } where
   came : (j : ℕ) → (tally_at now j).came ≡ (tally_at was j).came + cells_to (Some c) j
-  came j = ap (λ (t : Tally). t.came) (cells j)
+  came j = ap (λ (t : Tally). t.came) (come.cells j)
 
   ran' : (j : ℕ) → (tally_at now j).ran ≡ (tally_at was j).ran
-  ran' j = ap (λ (t : Tally). t.ran) (cells j)
+  ran' j = ap (λ (t : Tally). t.ran) (come.cells j)
 
   low : (j : ℕ) → (tally_at now j).ran ≤ (tally_at now j).came
   low j = let a = came j in let b = ran' j in let d = is.behind j in omega arith
@@ -95,14 +100,16 @@ unserved-more old new c was now long some inside cells members is = record { mem
       let d = is.behind j in
       let e = cells-if (has c.fan j) c.cells goes in
       let within = inside j member in
-      (λ _. (omega arith, omega arith), λ _. (members j).1 (inr member))
+      let long = come.count in
+      (λ _. (omega arith, omega arith), λ _. (come.members j).1 (inr member))
   by j false lacks =
       let a = came j in
       let b = ran' j in
-      let e = cells-else (has c.fan j) c.cells lacks in (
-        λ m. elim ((members j).0 m) [
+      let e = cells-else (has c.fan j) c.cells lacks in
+      let long = come.count in (
+        λ m. elim ((come.members j).0 m) [
           | inl old' ↦ let both = (is.members j).0 old' in (omega arith, omega arith)
           | inr fan ↦ let yes' = (Decides-has c.fan j).1 fan in absurd (cc)
         ],
-        λ both. let first = both.0 in let second = both.1 in (members j).1 (inl ((is.members j).1 (omega arith, omega arith))),
+        λ both. let first = both.0 in let second = both.1 in (come.members j).1 (inl ((is.members j).1 (omega arith, omega arith))),
       )

@@ -58,17 +58,19 @@ greatest-same f g (suc n) same =
     let here = same n (omega arith) in
     rw (here, rest) refl
 
-pub line-fields : (a b c d a' b' c' d' : ℕ) → a ≡ a' → b ≡ b' → c ≡ c' → d ≡ d'
-    → ◌≡◌ {A = RefLine} (record { ends = a; runs = b; lead = c; extra = d }) (record { ends = a'; runs = b'; lead = c'; extra = d' })
-line-fields a b c d a' b' c' d' p q r s = rw (p, q, r, s) refl
+-- two lines with the same numbers
+line-is : (l m : RefLine) → l.ends ≡ m.ends → l.runs ≡ m.runs → l.lead ≡ m.lead → l.extra ≡ m.extra → l ≡ m
+line-is l m p q r s = same where
+  same : ◌≡◌ {A = RefLine} (record { ends = l.ends; runs = l.runs; lead = l.lead; extra = l.extra })
+      (record { ends = m.ends; runs = m.runs; lead = m.lead; extra = m.extra })
+  same = rw (p, q, r, s) refl
 
 pub line-same : (f f' g g' : ℕ → ℕ) (n : ℕ) → ((u : ℕ) → u ≤ n → f u ≡ f' u) → ((u : ℕ) → u ≤ n → g u ≡ g' u) → line_by f g n ≡ line_by f' g' n
 line-same f f' g g' n first second =
     let apart : (u : ℕ) → u < n → ahead f g u ≡ ahead f' g' u = λ u below. let a = first (suc u) (omega arith) in let b = second (suc u) (omega arith) in
     omega arith in
-    line-fields (end_of f n) (end_of g n) (greatest_of (ahead f g) n) (total (ahead f g) n) (end_of f' n) (end_of g' n) (greatest_of (ahead f' g') n)
-    (total (ahead f' g') n)
-    (end-same f f' n first) (end-same g g' n second) (greatest-same (ahead f g) (ahead f' g') n apart) (total-same (ahead f g) (ahead f' g') n apart)
+    line-is (line_by f g n) (line_by f' g' n) (end-same f f' n first) (end-same g g' n second) (greatest-same (ahead f g) (ahead f' g') n apart)
+    (total-same (ahead f g) (ahead f' g') n apart)
 
 -- ---- what an input did in earlier slots
 module _ (plan : Plan) (served more : List (Option Served)) (t : ℕ) (within : t ≤ length served) where
@@ -177,19 +179,15 @@ module _ (matches : List Matched) (matched : Matched) where
           let ran-old : old.ran ≡ g t = was.ran ∙ sym (ran-before j t (omega arith)) in
           let given-new : new.given ≡ f (suc t) = given-next in
           let ran-new : new.ran ≡ g (suc t) = ran-next in
-          let one : t + 1 ≡ suc t = omega arith in
-          line-fields new.line.ends new.line.runs new.line.lead new.line.extra (end_of f (suc t)) (end_of g (suc t)) (greatest_of (ahead f g) (suc t))
-          (total (ahead f g) (suc t))
-          (ticks.ends ∙ ends-by old.given new.given (f t) (f (suc t)) (t + 1) (suc t) old.line.ends (end_of f t) given-old given-new one
-          (ap (λ (l : RefLine). l.ends) line))
-          (ticks.runs ∙ ends-by old.ran new.ran (g t) (g (suc t)) (t + 1) (suc t) old.line.runs (end_of g t) ran-old ran-new one
-          (ap (λ (l : RefLine). l.runs) line))
+          line-is new.line (line_by f g (suc t))
+          (ticks.ends ∙ ends-by f t old.given new.given old.line.ends given-old given-new (ap (λ (l : RefLine). l.ends) line))
+          (ticks.runs ∙ ends-by g t old.ran new.ran old.line.runs ran-old ran-new (ap (λ (l : RefLine). l.runs) line))
           (ticks.lead ∙ lead-by old.line.lead (greatest_of (ahead f g) t) new.given new.ran (f (suc t)) (g (suc t))
           (ap (λ (l : RefLine). l.lead) line) given-new ran-new)
           (ticks.extra ∙ extra-by old.line.extra (total (ahead f g) t) new.given new.ran (f (suc t)) (g (suc t))
           (ap (λ (l : RefLine). l.extra) line) given-new ran-new) where
-            ends-by : (a b a' b' s s' e e' : ℕ) → a ≡ a' → b ≡ b' → s ≡ s' → e ≡ e' → (if nat_lt a b then s else e) ≡ (if nat_lt a' b' then s' else e')
-            ends-by a b a' b' s s' e e' p q r x = rw (p, q, r, x) refl
+            ends-by : (h : ℕ → ℕ) (t a b e : ℕ) → a ≡ h t → b ≡ h (suc t) → e ≡ end_of h t → (if nat_lt a b then t + 1 else e) ≡ end_of h (suc t)
+            ends-by h t a b e p q x = let one : t + 1 ≡ suc t = omega arith in rw (p, q, one, x) refl
 
             lead-by : (l l' a b a' b' : ℕ) → l ≡ l' → a ≡ a' → b ≡ b' → max l (a - b) ≡ max l' (a' - b')
             lead-by l l' a b a' b' p q r = rw (p, q, r) refl
@@ -214,10 +212,17 @@ if-le : (b : Bool) (x y n : ℕ) → x ≤ n → y ≤ n → (if b then x else y
 if-le true x y n first second = first
 if-le false x y n first second = second
 
-pub small-next : (t fed : ℕ) (old new : Tally) → t + 1 < 4294967296 → IsSmall t old → Ticks t fed old new → fed ≤ 1 → (fed ≡ 1 → old.ran < old.came) → (more : ℕ)
-    → more ≤ 131072
+-- at most one cell is fed in a slot, and only where one waits, and so few come after it
+pub record AreFew (fed more : ℕ) (old : Tally) : Type 0 where
+  pub one : fed ≤ 1
+  pub waits : fed ≡ 1 → old.ran < old.came
+  pub within : more ≤ 131072
+
+pub small-next : (t fed more : ℕ) (old new : Tally) → t + 1 < 4294967296 → IsSmall t old → Ticks t fed old new → AreFew fed more old
     → IsSmall (t + 1) (record { came = new.came + more; given = new.given; ran = new.ran; line = new.line })
-small-next t fed old new few small ticks one waits more within =
+small-next t fed more old new few small ticks cells =
+    let one = cells.one in
+    let within = cells.within in
     let came = ticks.came in
     let given' = ticks.given in
     let ran' = ticks.ran in
@@ -229,7 +234,7 @@ small-next t fed old new few small ticks one waits more within =
     let d = small.few in
     let e = small.lead in
     let f = small.extra in
-    let behind' : new.ran ≤ new.given = elim (cases_lt fed 1) [ inl less ↦ omega arith | inr le ↦ let w = waits (omega arith) in omega arith ] in
+    let behind' : new.ran ≤ new.given = elim (cases_lt fed 1) [ inl less ↦ omega arith | inr le ↦ let w = cells.waits (omega arith) in omega arith ] in
     let high : new.given ≤ t + 1 = omega arith in
     let under : new.given ≤ new.came + more = omega arith in
     record {

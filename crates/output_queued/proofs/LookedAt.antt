@@ -2,7 +2,7 @@
 use Rattle.std.proofs.Common.{◌≡◌, ◌∙◌, ℕ, ◌+◌, ◌<◌, ◌≤◌, List, map, length, Some, slice_get, slice_index_or, sym, ap, subst}
 use Rattle.std.proofs.Common.{arith, inl, inr}
 use Rattle.std.proofs.lemmas.Bool.{cases_eq}
-use Rattle.std.proofs.lemmas.List.{get_or-map}
+use Rattle.std.proofs.lemmas.List.{get_or-map, length-map}
 use Rattle.std.proofs.lemmas.Option.{get_or_from_slice_get}
 use Rattle.card_core.specs.Plans.{AreRising}
 use Rattle.card_core.proofs.Ascending.{RisesTo, rises_more, rises_not}
@@ -14,9 +14,12 @@ abbrev pub no_coming : Coming
 no_coming = record { slot = 0; cells = 0; fan = 0; level = 0 }
 
 module _ {X : Type 0} where
-  -- what holds of those before a place, and of the one there
-  pub each_more : (P : X → Type 0) (xs : List X) (i : ℕ) (d : X) → ((k : ℕ) (x : X) → k < i → slice_get xs k ≡ Some x → P x) → P (slice_index_or xs i d)
-      → (k : ℕ) (x : X) → k < i + 1 → slice_get xs k ≡ Some x → P x
+  -- this holds of those before a place
+  abbrev HoldsBefore : ℕ → (X → Type 0) → List X → Type 0
+  HoldsBefore i P xs = (k : ℕ) (x : X) → k < i → slice_get xs k ≡ Some x → P x
+
+  -- and of the one there
+  pub each_more : (P : X → Type 0) (xs : List X) (i : ℕ) (d : X) → HoldsBefore i P xs → P (slice_index_or xs i d) → HoldsBefore (i + 1) P xs
   each_more P xs i d before here k x below is = elim (cases_eq k i) [
     | inl same ↦ subst P (get_or_from_slice_get xs i x d (ap (slice_get xs) (sym same) ∙ is)) here
     | inr other ↦ before k x (omega arith) is
@@ -42,7 +45,8 @@ rises_on coming i least d so_far inside from =
     subst (λ a. RisesTo (map planned_of coming) (i + 1) (a + 1)) same (rises_more (map planned_of coming) i least (planned_of d) so_far (omega arith))
 
 pub rises_no_more : (n : ℕ) (coming : List Coming) (i least : ℕ) (d : Coming) → RisesTo (map planned_of coming) i least → i < length coming
-    → length (map planned_of coming) ≡ length coming → (slice_index_or coming i d).slot < least → IsInput n coming → ⊥
-rises_no_more n coming i least d so_far inside long less is =
+    → (slice_index_or coming i d).slot < least → IsInput n coming → ⊥
+rises_no_more n coming i least d so_far inside less is =
+    let long = length-map coming planned_of in
     let same = ap (λ p. p.arrival) (get_or-map planned_of coming i d (planned_of d) inside) in
     rises_not (map planned_of coming) i least (planned_of d) so_far (omega arith) (omega arith) (rising_to n coming is)

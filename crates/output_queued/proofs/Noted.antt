@@ -301,11 +301,11 @@ module _ (s : State) (matches : List Matched) (noted : HasNoted s matches) where
               let few = may.few in
               let waits = fed-waits j inside in
               subst (IsSmall (s.slots + 1)) (sym is)
-              (small-next s.slots (if is_some (fed_of matched j) then 1 else 0) (tally_at s.tallies j) (tally_at tallies j) (omega arith)
-              (noted.stands.small j inside)
+              (small-next s.slots (if is_some (fed_of matched j) then 1 else 0)
+              (cells_of_first s.ports s.depth sources (served_in (matches ++ matched ∷ [])) j (s.slots + 1) s.ports)
+              (tally_at s.tallies j) (tally_at tallies j) (omega arith) (noted.stands.small j inside)
               (subst (λ t. Ticks t (if is_some (fed_of matched j) then 1 else 0) (tally_at s.tallies j) (tally_at tallies j)) (sym slots)
-              (ticks-all j inside)) (fed-few (fed_of matched j)) (λ one. omega arith)
-              (cells_of_first s.ports s.depth sources (served_in (matches ++ matched ∷ [])) j (s.slots + 1) s.ports) (omega arith))
+              (ticks-all j inside)) (record { one = fed-few (fed_of matched j); waits = λ one. omega arith; within = omega arith }))
 
           -- the reference has noted the slot
           pub noted-next : HasNoted
@@ -336,11 +336,11 @@ module _ (s : State) (matches : List Matched) (noted : HasNoted s matches) where
               }
 
 -- ---- the test of a slot
-pub note_from : (s : State) (matches : List Matched) → HasNoted s matches → (rows : List Row) (matched : Matched) → s.slots < 262145 → (n : ℕ) → n ≡ s.ports
-    → IsMatch n matched → rows ≡ map (λ (source : Source). row_of source.banks source.fans) s.sources
+pub note_from : (s : State) (matches : List Matched) → HasNoted s matches → (rows : List Row) (matched : Matched) → s.slots < 262145
+    → IsMatch s.ports matched → rows ≡ map (λ (source : Source). row_of source.banks source.fans) s.sources
     → ((i j level : ℕ) (kind : Kind) → Serves matched i j level kind → Names (row_in rows i) level kind j)
     → MayNote s rows matched × (s.slots < 262145)
-note_from s matches noted rows matched few n ports whole same named =
+note_from s matches noted rows matched few whole same named =
     let slots = noted.stands.slots in (
       (
         matches,
@@ -348,7 +348,7 @@ note_from s matches noted rows matched few n ports whole same named =
         record {
           few = omega arith;
           rows_are = same ∙ rows-are s matches noted;
-          whole = subst (λ k. IsMatch k matched) (ports ∙ sym (cards-long s matches noted)) whole;
+          whole = subst (λ k. IsMatch k matched) (sym (cards-long s matches noted)) whole;
           named = named;
         },
       ),

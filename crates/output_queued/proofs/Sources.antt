@@ -4,7 +4,7 @@ use Rattle.std.proofs.Common.{◌≡◌, ◌∙◌, ℕ, zero, suc, ◌+◌, ◌
 use Rattle.std.proofs.Common.{None, Some, slice_get, slice_index_or, refl, sym, ap, subst, arith, inl, inr, if◌then◌else◌}
 use Rattle.std.specs.List.{sum_by}
 use Rattle.std.specs.Option.{option_map}
-use Rattle.std.proofs.lemmas.Bool.{cases_lt, ne_eqb}
+use Rattle.std.proofs.lemmas.Bool.{cases_lt, eq-eqb, ne_eqb}
 use Rattle.std.proofs.lemmas.List.{length-replicate}
 use Rattle.std.proofs.lemmas.List.Sums.{sum_by-cons}
 use Rattle.std.proofs.lemmas.Option.{same_Some}
@@ -17,8 +17,9 @@ use Rattle.card_core.specs.declared.plan.Planned.{Planned}
 use Rattle.card_core.specs.Plans.{Plan, IsPlanned, IsGoodPlan, size_of, arriving}
 use Rattle.card_core.specs.Queues.{queue_in, is_routed, is_admitted, admitted, dropped, counted, count_in}
 use Rattle.card_core.specs.Posts.{granted_at}
+use Rattle.card_core.specs.InputQueues.{InputQueues, QueueRooms}
 use Rattle.card_core.specs.States.{State, HasSent, IsNext, AreQueues, state_of}
-use Rattle.card_core.specs.StateSteps.{HasRooms, next_in, MayEnter, Enters}
+use Rattle.card_core.specs.StateSteps.{HasRooms, arriving_if, next_in, MayEnter, Enters}
 use Rattle.card_core.proofs.Beginning.{begins}
 use Rattle.card_core.proofs.Passing.{arriving-there}
 use Rattle.card_core.proofs.Posted.{may_arrive, posted_is, posted_state}
@@ -103,14 +104,17 @@ good-card n depth coming part = record {
 }
 
 -- ---- before any packet
-pub begins_as : (n depth : ℕ) (coming : List Coming) (uni fan : List ℕ) (banks : UniQueues) (fans : FanQueues) → IsPart n depth coming
-    → HasRooms n (map planned_of coming) uni fan → banks ≡ empty_unis n depth uni → fans ≡ empty_fans n depth fan
-    → IsBefore (card_for n depth coming) (record { coming = coming; next = 0; banks = banks; fans = fans }) []
+pub begins_as : (n depth : ℕ) (coming : List Coming) (rooms : QueueRooms) (queues : InputQueues) → IsPart n depth coming
+    → HasRooms n (map planned_of coming) rooms.unicast rooms.multicast → queues.unicast ≡ empty_unis n depth rooms.unicast
+    → queues.multicast ≡ empty_fans n depth rooms.multicast
+    → IsBefore (card_for n depth coming) (record { coming = coming; next = 0; banks = queues.unicast; fans = queues.multicast }) []
 unfolding card_for
-begins_as n depth coming uni fan banks fans part rooms are fans_are =
+begins_as n depth coming rooms queues part has are fans_are =
+    let uni = rooms.unicast in
+    let fan = rooms.multicast in
     let sent = begins (card_for n depth coming) empty_row uni fan (good-card n depth coming part)
-    (λ j l inside below. let e = rooms.unis j l inside below in omega arith) (λ l below. let e = rooms.fans l below in omega arith) in
-    subst (λ b. IsBefore (card_for n depth coming) (record { coming = coming; next = 0; banks = b; fans = fans }) []) (sym are)
+    (λ j l inside below. let e = has.unis j l inside below in omega arith) (λ l below. let e = has.fans l below in omega arith) in
+    subst (λ b. IsBefore (card_for n depth coming) (record { coming = coming; next = 0; banks = b; fans = queues.multicast }) []) (sym are)
     (subst (λ f. IsBefore (card_for n depth coming) (record { coming = coming; next = 0; banks = empty_unis n depth uni; fans = f }) []) (sym fans_are)
     (record { next = sent.next; queues = sent.queues }))
 
@@ -282,15 +286,16 @@ module _ (n depth : ℕ) (source : Source) (served : List (Option Served)) (part
       (none (subst (λ s. option_map planned_of None ≡ next_in (map planned_of source.coming) source.next s) (sym long) e))
 
   pub one_at : (slot : ℕ) → length served ≡ slot → (c : Coming) → slice_get source.coming source.next ≡ Some c → c.slot ≡ slot
-      → option_map planned_of (Some c) ≡ next_in (map planned_of source.coming) source.next slot
       → (fits : Bool) (banks : UniQueues) (fans : FanQueues) → Enters source.next c.fan c.level c.cells fits source.banks source.fans banks fans
       → HasEntered n depth slot served source (record { coming = source.coming; next = source.next + 1; banks = banks; fans = fans })
       (if fits then Some c else None)
-  one_at slot long c there now e fits banks fans enters =
+  one_at slot long c there now fits banks fans enters =
+      let e : option_map planned_of (Some c) ≡ next_in (map planned_of source.coming) source.next (length served) =
+      sym (ap (arriving_if (length served)) (at-planned source.coming source.next c there)
+      ∙ ap (λ b. if b then Some (planned_of c) else None) (eq-eqb c.slot (length served) (now ∙ sym long))) in
       subst (λ s. HasEntered n depth s served source (record { coming = source.coming; next = source.next + 1; banks = banks; fans = fans })
       (if fits then Some c else None)) long
-      (one_by c there (now ∙ sym long)
-      (subst (λ s. option_map planned_of (Some c) ≡ next_in (map planned_of source.coming) source.next s) (sym long) e) fits banks fans enters)
+      (one_by c there (now ∙ sym long) e fits banks fans enters)
 
   pub may_at : (slot : ℕ) → length served ≡ slot → (c : Coming) → slice_get source.coming source.next ≡ Some c
       → option_map planned_of (Some c) ≡ next_in (map planned_of source.coming) source.next slot → MayEnter source.banks source.fans c.fan c.level c.cells

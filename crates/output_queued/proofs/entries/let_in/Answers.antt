@@ -86,8 +86,9 @@ loop-input-preserved c =
                 let so = inv.small j in
                 let few = cells-few packet j in
                 omega arith;
-            unserved = unserved-more c.loop-input.unserved w.union-unserved.result packet tallies w.add_cells.new.tallies.items w.add_cells.ensures.count
-                coming.some (λ j has. let lower = Has-lt ports packet.fan j coming.fan has in omega arith) cells w.union-unserved.ensures inv.unserved;
+            unserved = unserved-more c.loop-input.unserved w.union-unserved.result packet tallies w.add_cells.new.tallies.items coming.some
+                (λ j has. let lower = Has-lt ports packet.fan j coming.fan has in omega arith)
+                (record { count = w.add_cells.ensures.count; cells = cells; members = w.union-unserved.ensures }) inv.unserved;
             entered = λ ports' depth' served' stand'.
                 let count' = stand'.count in
                 let inside' : k < ports' = omega arith in

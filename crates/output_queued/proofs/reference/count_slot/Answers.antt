@@ -23,16 +23,21 @@ without-left-requires c = let inside =
     (c.requires.unserved.members c.in-Some.output).0 (c.loop-output.invariant.inside c.in-Some.output c.in-Some.ensures.member) in let size =
     c.requires.size in omega arith
 
--- one output is counted anew
-unserved-set : (old new : ℕ) (now : List Tally) (out : ℕ) (tally : Tally) → out < length now → IsUnserved old now → tally.ran ≤ tally.came
-    → ((j : ℕ) → (j ≡ out → ⊥) → Has new j ↔ Has old j) → (Has new out ↔ (tally.ran < tally.came)) → IsUnserved new (slice_set now out tally)
-unserved-set old new now out tally below is low others mine = record {
+-- one output is counted anew: it is in the set where the run has not served all that came
+record IsCountedAnew (old new out : ℕ) (tally : Tally) : Type 0 where
+  pub low : tally.ran ≤ tally.came
+  pub others : (j : ℕ) → (j ≡ out → ⊥) → Has new j ↔ Has old j
+  pub mine : Has new out ↔ (tally.ran < tally.came)
+
+unserved-set : (old new : ℕ) (now : List Tally) (out : ℕ) (tally : Tally) → out < length now → IsUnserved old now → IsCountedAnew old new out tally
+    → IsUnserved new (slice_set now out tally)
+unserved-set old new now out tally below is anew = record {
   members = λ j. elim (cases_eq j out) [
-    | inl same ↦ rw (same, get_or-set_same now out tally no_tally below, length-set now out tally) (λ m. (below, mine.0 m), λ both. mine.1 both.1)
+    | inl same ↦ rw (same, get_or-set_same now out tally no_tally below, length-set now out tally) (λ m. (below, anew.mine.0 m), λ both. anew.mine.1 both.1)
     | inr other ↦ rw (get_or-set_other now out j tally no_tally other, length-set now out tally)
-        (λ m. (is.members j).0 ((others j other).0 m), λ both. (others j other).1 ((is.members j).1 both))
+        (λ m. (is.members j).0 ((anew.others j other).0 m), λ both. (anew.others j other).1 ((is.members j).1 both))
   ];
-  behind = λ j. set-case no_tally (λ k t. t.ran ≤ t.came) now out tally below low j (λ other. is.behind j);
+  behind = λ j. set-case no_tally (λ k t. t.ran ≤ t.came) now out tally below anew.low j (λ other. is.behind j);
 }
 
 pub loop-output-preserved : goal.loop-output-preserved
@@ -73,14 +78,16 @@ loop-output-preserved c =
         | then-not-is_behind w ↦
             let gone = w.without-unserved.ensures.members in
             let test = w.if-not-is_behind.true in
-            rw w.unserved-is (unserved-set c.loop-output.unserved w.without-unserved.result now out new below inv.unserved low
-            (λ j other. (λ m. ((gone j).0 m).1, λ m. (gone j).1 (other, m)))
-            (λ m. absurd (((gone out).0 m).0 refl), λ less. let yes_ = c.is_behind.ensures.1 less in absurd (cc)))
+            rw w.unserved-is (unserved-set c.loop-output.unserved w.without-unserved.result now out new below inv.unserved (record {
+              low = low;
+              others = λ j other. (λ m. ((gone j).0 m).1, λ m. (gone j).1 (other, m));
+              mine = (λ m. absurd (((gone out).0 m).0 refl), λ less. let yes_ = c.is_behind.ensures.1 less in absurd (cc));
+            }))
         | else-not-is_behind w ↦
             let test = w.if-not-is_behind.false in
             let less : new.ran < new.came = c.is_behind.ensures.0 test in
             let still : Has c.loop-output.unserved out = (inv.unserved.members out).1 (below, subst (λ (t : Tally). t.ran < t.came) (sym was) behind) in
-            rw w.unserved-is (unserved-set c.loop-output.unserved c.loop-output.unserved now out new below inv.unserved low (λ j other. (λ m. m, λ m. m))
-            (λ m. less, λ _. still))
+            rw w.unserved-is (unserved-set c.loop-output.unserved c.loop-output.unserved now out new below inv.unserved
+            (record { low = low; others = λ j other. (λ m. m, λ m. m); mine = (λ m. less, λ _. still) }))
       ];
     }

@@ -1,28 +1,11 @@
-use Rattle.std.proofs.Common.{◌≡◌, ◌∙◌, ◌+◌, ◌<◌, ◌^◌, ℕ, List, [], ◌∷◌, ◌++◌, map, arith, refl, sym, ap, subst, take, length, slice_index_or}
+use Rattle.std.proofs.Common.{◌≡◌, ◌∙◌, ◌+◌, ◌<◌, ◌^◌, [], ◌∷◌, ◌++◌, map, arith, refl, sym, ap, subst, take, length, slice_index_or}
 use Rattle.std.proofs.lemmas.List.{take_more, take_all, map-append}
 use Rattle.std.proofs.lemmas.Option.{slice_get-get_or}
-use Rattle.card_core.specs.declared.plan.Planned.{Planned}
-use Rattle.card_core.specs.InputQueues.{QueueRooms}
 use Rattle.card_core.specs.StateSteps.{HasRooms}
 use Rattle.card_core.proofs.Plenty.{few_up}
-use Rattle.output_queued.specs.declared.coming.Coming.{Coming}
 use Rattle.output_queued.specs.Switches.{planned_of}
 use Rattle.output_queued.proofs.LookedAt.{no_coming}
 use Rattle.output_queued.proofs.rooms.count_rooms.Goals as goal
-
-next : (n m i : ℕ) (packets : List Coming) (d : Coming) (old new : QueueRooms) → m ≡ n → i < length packets
-    → ((before : List Planned) (packet : Planned) → packet.fan ≡ (slice_index_or packets i d).fan → packet.level ≡ (slice_index_or packets i d).level
-    → HasRooms m before old.unicast old.multicast → HasRooms m (before ++ packet ∷ []) new.unicast new.multicast)
-    → HasRooms n (map planned_of (take i packets)) old.unicast old.multicast
-    → HasRooms n (map planned_of (take (i + 1) packets)) new.unicast new.multicast
-next n m i packets d old new is inside adds had =
-    let last = slice_index_or packets i d in
-    let one : map planned_of (take (i + 1) packets) ≡ map planned_of (take i packets) ++ planned_of last ∷ [] =
-    ap (map planned_of) (take_more packets i d inside) ∙ map-append planned_of (take i packets) (last ∷ []) in
-    subst (λ k. HasRooms k (map planned_of (take (i + 1) packets)) new.unicast new.multicast) is
-    (subst (λ ps. HasRooms m ps new.unicast new.multicast) (sym one)
-    (adds (map planned_of (take i packets)) (planned_of last) refl refl
-    (subst (λ k. HasRooms k (map planned_of (take i packets)) old.unicast old.multicast) (sym is) had)))
 
 pub count-requires-clause-few : goal.count-requires-clause-few
 count-requires-clause-few c =
@@ -47,12 +30,24 @@ loop-packet-init c = record {
 }
 
 pub loop-packet-preserved : goal.loop-packet-preserved
-loop-packet-preserved c = record {
-  ports = c.count.ensures.ports ∙ c.loop-packet.invariant.ports;
-  rooms = next c.args.n c.loop-packet.rooms.ports c.loop-packet.packet-index c.args.coming.now no_coming c.loop-packet.rooms c.count.new.self
-      c.loop-packet.invariant.ports c.loop-packet-test.true c.count.ensures.rooms c.loop-packet.invariant.rooms;
-  few = c.count.ensures.few c.loop-packet.packet-index c.loop-packet.invariant.few;
-}
+loop-packet-preserved c =
+    let packets = c.args.coming.now in
+    let i = c.loop-packet.packet-index in
+    let old = c.loop-packet.rooms in
+    let new = c.count.new.self in
+    let ports = c.loop-packet.invariant.ports in
+    let last = slice_index_or packets i no_coming in
+    let before = map planned_of (take i packets) in
+    let one : map planned_of (take (i + 1) packets) ≡ before ++ planned_of last ∷ [] =
+    ap (map planned_of) (take_more packets i no_coming c.loop-packet-test.true) ∙ map-append planned_of (take i packets) (last ∷ []) in
+    let had = subst (λ k. HasRooms k before old.unicast old.multicast) (sym ports) c.loop-packet.invariant.rooms in
+    record {
+      ports = c.count.ensures.ports ∙ ports;
+      rooms = subst (λ ps. HasRooms c.args.n ps new.unicast new.multicast) (sym one)
+          (subst (λ k. HasRooms k (before ++ planned_of last ∷ []) new.unicast new.multicast) ports
+          (c.count.ensures.rooms before (planned_of last) refl refl had));
+      few = c.count.ensures.few i c.loop-packet.invariant.few;
+    }
 
 pub returns-clause-rooms : goal.returns-clause-rooms
 returns-clause-rooms c =

@@ -61,8 +61,7 @@ returns-then-slot-least c = (
   λ no_. absurd (cc),
   λ all.
       let coming = c.args.coming.now in
-      let long = length-map coming planned_of in
       let less : (slice_index_or coming c.loop-packet.packet-index no_coming).slot < c.loop-packet.least = omega arith in
       absurd (rises_no_more c.args.n coming c.loop-packet.packet-index c.loop-packet.least no_coming c.loop-packet.invariant.rises c.loop-packet-test.true
-      long less all.0),
+      less all.0),
 )

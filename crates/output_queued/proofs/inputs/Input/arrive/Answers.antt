@@ -51,8 +51,6 @@ returns-clause-entered c n depth served part long is =
     let s0 = the_view c.self.inside in
     let there : slice_get s0.coming s0.next ≡ Some c.in_ok-packet.packet =
     ap (λ (cs : List Coming). slice_get cs c.self.inside.next) (sym c.deref.ensures.value) ∙ c.in_ok-packet.ensures.there.0 in
-    let e : option_map planned_of (Some c.in_ok-packet.packet) ≡ next_in (map planned_of s0.coming) s0.next c.args.slot =
-    c.in_ok-packet.ensures.next ∙ ap (λ (cs : List Coming). next_in (map planned_of cs) c.self.inside.next c.args.slot) c.deref.ensures.value in
     let out : c.if-admitted.result ≡ (if c.enter-admitted.result then Some packet else None) =
     elim c.if-admitted.branch [
       | then-admitted w ↦ w.result-is ∙ sym (ap (λ b. if b then Some packet else None) w.if-admitted.true)
@@ -67,4 +65,4 @@ returns-clause-entered c n depth served part long is =
     (subst (HasEntered n depth c.args.slot served s0 new) (sym out)
     (one_at n depth s0 served (subst (λ (s : Source). IsPart n depth s.coming) (sym c.self.view_is) part)
     (subst (λ (s : Source). IsBefore (card_for n depth s.coming) s served) (sym c.self.view_is) is) c.args.slot long packet there
-    c.in_ok-packet.ensures.there.1 e c.enter-admitted.result c.enter-admitted.new.self.unicast c.enter-admitted.new.self.multicast c.enter-admitted.ensures))
+    c.in_ok-packet.ensures.there.1 c.enter-admitted.result c.enter-admitted.new.self.unicast c.enter-admitted.new.self.multicast c.enter-admitted.ensures))

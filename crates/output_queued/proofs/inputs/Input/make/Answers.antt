@@ -16,8 +16,7 @@ make-requires-clause-some c = subst (λ n. 0 < n) (sym c.in_ok-rooms.ensures.por
 pub returns-clause-before : goal.returns-clause-before
 returns-clause-before c =
     let rooms = c.in_ok-rooms.rooms in
-    begins_as c.args.n c.args.depth c.args.coming.items rooms.unicast rooms.multicast c.in_ok-queues.queues.unicast c.in_ok-queues.queues.multicast
-    c.requires
+    begins_as c.args.n c.args.depth c.args.coming.items rooms c.in_ok-queues.queues c.requires
     (subst (λ ps. HasRooms c.args.n (map planned_of ps) rooms.unicast rooms.multicast) c.deref.ensures.value c.in_ok-rooms.ensures.rooms)
     (c.in_ok-queues.ensures.unicast ∙ ap (λ n. empty_unis n c.args.depth rooms.unicast) c.in_ok-rooms.ensures.ports)
     (c.in_ok-queues.ensures.multicast ∙ ap (λ n. empty_fans n c.args.depth rooms.multicast) c.in_ok-rooms.ensures.ports)

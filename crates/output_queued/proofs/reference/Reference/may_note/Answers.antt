@@ -1,5 +1,6 @@
 use Rattle.std.proofs.Common.{◌≡◌, ◌∙◌, ◌<◌, true, map, ap, sym, subst, arith}
 use Rattle.std.proofs.lemmas.Bool.{eqb-true, eq-eqb, le-ltb, both_ways}
+use Rattle.slot_match.specs.Matches.{IsMatch}
 use Rattle.card_core.specs.StateSteps.{row_of}
 use Rattle.output_queued.specs.NotingSteps.{Source, State, MayNote}
 use Rattle.output_queued.specs.contracts.reference.Reference.{the_view}
@@ -21,8 +22,8 @@ returns-then-are_rows c =
               let same : rows ≡ map (λ (source : Source). row_of source.banks source.fans) s0.sources = w.are_rows.ensures.0 are
               ∙ ap (map (λ (source : Source). row_of source.banks source.fans)) w.deref.ensures.value in
               subst (λ (s : State). MayNote s rows matched × (s.slots < 262145)) c.self.view_is
-              (note_from s0 c.self.invariant.0 c.self.invariant.1 rows matched v.if-self-lt-MAX_SLOTS.true v.ports.result ports v.ports.ensures.whole same
-              (c.are_named.ensures.0 named))
+              (note_from s0 c.self.invariant.0 c.self.invariant.1 rows matched v.if-self-lt-MAX_SLOTS.true
+              (subst (λ n. IsMatch n matched) ports v.ports.ensures.whole) same (c.are_named.ensures.0 named))
           | else-self-lt-MAX_SLOTS v ↦ absurd
               (both_ways c.if-self-lt-MAX_SLOTS.value (v.value-is ∙ le-ltb c.self.inside.slots 262145 v.if-self-lt-MAX_SLOTS.false) w.if-ports-self.true)
         ]
