@@ -1,5 +1,5 @@
 -- The notes of a run that grow by a slot.
-use Rattle.std.proofs.Common.{◌≡◌, ◌<◌, ◌+◌, ◌++◌, ℕ, zero, suc, Bool, true, List, [], ◌∷◌, map, length, get_or, Option, None, Some, IfSome}
+use Rattle.std.proofs.Common.{◌≡◌, ◌<◌, ◌+◌, ◌++◌, ℕ, zero, suc, List, [], ◌∷◌, map, length, get_or, Option, None, Some, IfSome}
 use Rattle.std.proofs.Common.{refl, sym, ap, subst, ◌∙◌, arith}
 use Rattle.std.specs.List.{enumerate_from, range_with_len}
 use Rattle.std.proofs.lemmas.List.{append-nil, length-map, map-append}
@@ -19,7 +19,7 @@ use Rattle.board_state.specs.Boards.{no_slot}
 use Rattle.board_state.specs.declared.limits.TheConstants.{MAX_SLOTS}
 use Rattle.slot_report.specs.Lines.{line_text, lines_text}
 use Rattle.slot_report.specs.Texts.{journal_line, map_with_place, slot_line}
-use Rattle.switch_plan.specs.GoodPlans.{SwitchPlan, IsGood, IsBurst}
+use Rattle.switch_plan.specs.GoodPlans.{SwitchPlan, IsGood}
 use Rattle.run_laws.specs.Ends.{IsLengthUnder}
 use Rattle.run_laws.specs.Runs.{journal_under, posts_under, run_journal, slot_under, IsSlotUnder}
 use Rattle.run_laws.specs.RunSteps.{run_slot}
@@ -37,7 +37,7 @@ use Rattle.reference_run.specs.MeetingSteps.{IsReferenceOf, run_rows_under}
 use Rattle.reference_run.specs.RunLines.{run_matches_under}
 use Rattle.reference_run.proofs.Told.{line-told}
 use Rattle.run_sinks.specs.NotedSlots.{IsRunSlot}
-use Rattle.run_notes.specs.NotingSteps.{IsJournalOf, IsKept, IsReferenceAfter}
+use Rattle.run_notes.specs.NotingSteps.{HasNoted, IsJournalOf, IsKept, IsReferenceAfter, Notes}
 
 -- f of each place and of what g makes there
 places-range : {X Y : Type 0} (f : ℕ → X → Y) (g : ℕ → X) (a n : ℕ)
@@ -93,19 +93,20 @@ file_more scheduler plan t posts matched is =
     ∙ ap (λ (m : Matched). map file_slot journal ++ (record { posts = map file_post posts; matched = m }) ∷ []) (sym is.matched_is))
 
 -- the writer of a run's first slots may put a slot of the run
-pub writer_below : (scheduler : Scheduler) (plan : SwitchPlan) (t slots : ℕ) (is_wanted : Bool) → IsScheduler scheduler → IsGood plan
-    → (is_wanted ≡ true → IsBurst plan)
-    → IsLengthUnder scheduler plan slots → t < slots → (journal : Option WriterValue) → IsKept is_wanted (IsJournalOf scheduler plan t) journal
-    → IfSome journal (λ writer. writer.slots < MAX_SLOTS)
-writer_below scheduler plan t slots is_wanted scheduling good burst ends below None kept = tt
-writer_below scheduler plan t slots is_wanted scheduling good burst ends below (Some writer) kept =
-    let most = slots_few plan good (burst (sym kept.there)) in
-    let bound = run_bound scheduler scheduling plan good slots ends in
-    let work = total_admitted-le scheduler plan slots in
-    let max = good.max_slots in
-    let count : length (run_file_under scheduler plan t).slots ≡ t = length-map (journal_under scheduler plan t) file_slot
-    ∙ length-map-range_with_len (slot_under scheduler plan) 0 t in
-    omega (arith, most, bound, work, max, count, kept.holds.slots)
+pub writer_below : (scheduler : Scheduler) (plan : SwitchPlan) (t slots : ℕ) → IsScheduler scheduler → IsLengthUnder scheduler plan slots → t < slots
+    → (notes : Notes) → HasNoted scheduler plan notes t → IfSome notes.journal (λ writer. writer.slots < MAX_SLOTS)
+writer_below scheduler plan t slots scheduling ends below notes noted = few notes.journal noted.journal where
+  few : (journal : Option WriterValue) → IsKept notes.wanted.journal (IsJournalOf scheduler plan t) journal
+      → IfSome journal (λ writer. writer.slots < MAX_SLOTS)
+  few None kept = tt
+  few (Some writer) kept =
+      let most = slots_few plan noted.good (noted.burst (sym kept.there)) in
+      let bound = run_bound scheduler scheduling plan noted.good slots ends in
+      let work = total_admitted-le scheduler plan slots in
+      let max = noted.good.max_slots in
+      let count : length (run_file_under scheduler plan t).slots ≡ t = length-map (journal_under scheduler plan t) file_slot
+      ∙ length-map-range_with_len (slot_under scheduler plan) 0 t in
+      omega (arith, most, bound, work, max, count, kept.holds.slots)
 
 -- the reference may note a slot that may come next
 pub may_note_slot : (scheduler : Scheduler) (plan : SwitchPlan) (t : ℕ) (reference : Option State) (posts : List Post) (matched : Matched)
@@ -121,20 +122,19 @@ pub count_of_run : (plan : SwitchPlan) (slots : ℕ) (journal : List JournalSlot
 count_of_run plan slots journal are = ap length are ∙ length-map-range_with_len (run_slot plan) 0 slots
 
 -- what the journal tells of a slot is that slot of the run
-pub slot_of_journal : (plan : SwitchPlan) (slots t : ℕ) (journal : List JournalSlot) (posts : List Post) (matched : Matched) (numbers : RoundsUsed)
-    → IsGood plan → journal ≡ run_journal plan slots → t < slots → posts ≡ (get_or journal t no_slot).posts → matched ≡ (get_or journal t no_slot).matched
-    → numbers ≡ (get_or journal t no_slot).numbers → IsRunSlot decision_of plan t posts matched numbers
-slot_of_journal plan slots t journal posts matched numbers good are below posts_told matched_told numbers_told =
+pub slot_of_journal : (plan : SwitchPlan) (slots t : ℕ) (journal : List JournalSlot) → IsGood plan → journal ≡ run_journal plan slots → t < slots
+    → IsRunSlot decision_of plan t (get_or journal t no_slot).posts (get_or journal t no_slot).matched (get_or journal t no_slot).numbers
+slot_of_journal plan slots t journal good are below =
     let place : 0 + t ≡ t = omega arith in
     let slot : get_or journal t no_slot ≡ run_slot plan t =
     ap (λ (all : List JournalSlot). get_or all t no_slot) are ∙ get_or-map-range_with_len (run_slot plan) 0 slots t t no_slot below place in
-    let matched_is : matched ≡ (run_slot plan t).matched = matched_told ∙ ap (λ (s : JournalSlot). s.matched) slot in
+    let matched_is = ap (λ (s : JournalSlot). s.matched) slot in
     record {
       slot = record {
-        posts_are = posts_told ∙ ap (λ (s : JournalSlot). s.posts) slot;
+        posts_are = ap (λ (s : JournalSlot). s.posts) slot;
         matched_is = matched_is;
         servable = λ i inside. subst (λ (m : Matched). IsServable (posts_under decision_of plan i t).row (served_of m i)) (sym matched_is)
             (requested decision_of IsScheduler-decision_of plan good i t inside);
       };
-      numbers_are = numbers_told ∙ ap (λ (s : JournalSlot). s.numbers) slot;
+      numbers_are = ap (λ (s : JournalSlot). s.numbers) slot;
     }

@@ -14,15 +14,14 @@ use Rattle.run_notes.specs.declared.texts.NotesFault.TheVariants.{JournalTooLong
 use Rattle.run_notes.specs.NotingSteps.{StopsJournal, StopsPackets, StopsTold}
 use Rattle.run_notes.specs.Told.{Told}
 
-abbrev told : List ℕ → Option (List ℕ) → List ℕ → List ℕ → Option (List ℕ) → Told
-told slots journal reference queues packets = record { slots = slots; journal = journal; reference = reference; queues = queues; packets = packets }
-
 -- the same texts, one by one
-pub told_same : (s t : List ℕ) (j k : Option (List ℕ)) (r q : List ℕ) (u v : List ℕ) (p o : Option (List ℕ)) → s ≡ t → j ≡ k → r ≡ q → u ≡ v → p ≡ o
-    → told s j r u p ≡ told t k q v o
-told_same s t j k r q u v p o slots journal reference queues packets =
-    ap (λ (x : List ℕ). told x j r u p) slots ∙ ap (λ (x : Option (List ℕ)). told t x r u p) journal ∙ ap (λ (x : List ℕ). told t k x u p) reference
-    ∙ ap (λ (x : List ℕ). told t k q x p) queues ∙ ap (λ (x : Option (List ℕ)). told t k q v x) packets
+pub told_same : (x y : Told) → x.slots ≡ y.slots → x.journal ≡ y.journal → x.reference ≡ y.reference → x.queues ≡ y.queues → x.packets ≡ y.packets → x ≡ y
+told_same x y slots journal reference queues packets =
+    let told : List ℕ → Option (List ℕ) → List ℕ → List ℕ → Option (List ℕ) → Told =
+    λ s j r q p. record { slots = s; journal = j; reference = r; queues = q; packets = p } in
+    ap (λ s. told s x.journal x.reference x.queues x.packets) slots ∙ ap (λ j. told y.slots j x.reference x.queues x.packets) journal
+    ∙ ap (λ r. told y.slots y.journal r x.queues x.packets) reference ∙ ap (λ q. told y.slots y.journal y.reference q x.packets) queues
+    ∙ ap (told y.slots y.journal y.reference y.queues) packets
 
 -- a journal that is wanted and made is short enough
 pub fits_where_wanted : (is_wanted : Bool) (bytes : Option (List ℕ)) (text : List ℕ) → bytes ≡ (if is_wanted then Some text else None)

@@ -19,8 +19,7 @@ note-requires c =
       ends,
       below,
       noted,
-      slot_of_journal plan slots t journal c.posts.result.now c.decided.result.now c.used.result noted.good are below c.posts.ensures.posts
-          c.decided.ensures.matched c.used.ensures,
+      rw (c.posts.ensures.posts, c.decided.ensures.matched, c.used.ensures) (slot_of_journal plan slots t journal noted.good are below),
     )
 
 pub loop-slot-preserved : goal.loop-slot-preserved
@@ -32,8 +31,7 @@ loop-slot-preserved c = record {
       let noted = c.loop-slot.invariant.noted plan slots ends are first in
       let below : t < slots = omega (arith, count_of_run plan slots journal are) in
       c.in_ok-note.ensures.noted decision_of plan noted
-      (slot_of_journal plan slots t journal c.posts.result.now c.decided.result.now c.used.result noted.good are below c.posts.ensures.posts
-      c.decided.ensures.matched c.used.ensures);
+      (rw (c.posts.ensures.posts, c.decided.ensures.matched, c.used.ensures) (slot_of_journal plan slots t journal noted.good are below));
 }
 
 pub returns-clause-noted : goal.returns-clause-noted

@@ -32,7 +32,8 @@ pub returns-clause-made : goal.returns-clause-made
 returns-clause-made c = λ scheduler plan slots ends noted.
     let old = subst (λ (n : Notes). HasNoted scheduler plan n slots) (sym c.self.view_is) noted in
     let come = arrivals_first scheduler plan slots ends in
-    told_same _ _ _ _ _ _ _ _ _ _ (c.lines_or_empty-slots.ensures scheduler plan c.self.inside.wanted.slots slots old.slots)
+    told_same _ (told_under scheduler c.self.inside.wanted plan slots)
+    (c.lines_or_empty-slots.ensures scheduler plan c.self.inside.wanted.slots slots old.slots)
     (c.in_ok-journal.ensures.bytes scheduler plan c.self.inside.wanted.journal slots old.journal)
     (c.in_ok-reference.ensures scheduler plan c.self.inside.wanted.reference slots noted.good old.reference)
     (c.in_ok-queues.ensures scheduler plan c.self.inside.wanted.queues slots old.queues come)

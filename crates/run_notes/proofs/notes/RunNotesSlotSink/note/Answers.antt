@@ -19,7 +19,7 @@ pub put_slot_into-requires-clause-slots : goal.put_slot_into-requires-clause-slo
 put_slot_into-requires-clause-slots c =
     let (scheduler, plan, slots, scheduling, ends, below, noted, is) = c.requires in
     let old = subst (λ (n : Notes). HasNoted scheduler plan n c.args.slot) (sym c.self.view_is) noted in
-    writer_below scheduler plan c.args.slot slots c.self.inside.wanted.journal scheduling noted.good old.burst ends below _ old.journal
+    writer_below scheduler plan c.args.slot slots scheduling ends below _ old
 
 pub note_matched-requires : goal.note_matched-requires
 note_matched-requires c =
