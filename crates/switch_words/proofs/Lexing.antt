@@ -11,29 +11,48 @@ use Rattle.clap.specs.Lexer.{long_of, short_of}
 use Rattle.clap.specs.Walk.{Text}
 use Rattle.switch_words.specs.Parts.{closing, option, name, refused, value_in, word_of}
 
+-- an option of this name, with the value behind its `=` if there is one
+pub record IsLong (word n : Text) (v : Option Text) : Type 0 where
+  pub goes_on : bytes_eq word (45 ∷ 45 ∷ []) ≡ false
+  pub long : long_of word ≡ Some (n, v)
+
+-- one dash, and this byte and these behind it
+pub record IsShort (word : Text) (b : ℕ) (rest : Text) : Type 0 where
+  pub goes_on : bytes_eq word (45 ∷ 45 ∷ []) ≡ false
+  pub no_long : long_of word ≡ None
+  pub short : short_of word ≡ Some (b ∷ rest)
+
+-- no option
+pub record IsPlain (word : Text) : Type 0 where
+  pub goes_on : bytes_eq word (45 ∷ 45 ∷ []) ≡ false
+  pub no_long : long_of word ≡ None
+  pub no_short : short_of word ≡ None
+
 pub data Lexed (word : Text) : Type 0 where
   closes : bytes_eq word (45 ∷ 45 ∷ []) ≡ true → word_of word ≡ closing → Lexed word
-  longs : (n : Text) (v : Option Text) → bytes_eq word (45 ∷ 45 ∷ []) ≡ false → long_of word ≡ Some (n, v) → word_of word ≡ option n v → Lexed word
-  shorts : (b : ℕ) (rest : Text) → bytes_eq word (45 ∷ 45 ∷ []) ≡ false → long_of word ≡ None → short_of word ≡ Some (b ∷ rest)
-      → word_of word ≡ refused → word ≡ 45 ∷ b ∷ rest → Lexed word
-  plains : bytes_eq word (45 ∷ 45 ∷ []) ≡ false → long_of word ≡ None → short_of word ≡ None → word_of word ≡ name → Lexed word
+  longs : (n : Text) (v : Option Text) → IsLong word n v → word_of word ≡ option n v → Lexed word
+  shorts : (b : ℕ) (rest : Text) → IsShort word b rest → word_of word ≡ refused → word ≡ 45 ∷ b ∷ rest → Lexed word
+  plains : IsPlain word → word_of word ≡ name → Lexed word
 
 double : (a b : ℕ) (rest : Text) → (a == 45) ≡ true → (b == 45) ≡ true → Lexed (a ∷ b ∷ rest)
 double a b [] h k = closes (rw (h, k) refl) (rw (h, k) refl)
-double a b (x ∷ xs) h k = longs (before_first (λ c. c == 61) (x ∷ xs)) (value_in (x ∷ xs)) (rw (h, k) refl) (rw (h, k) refl) (rw (h, k) refl)
+double a b (x ∷ xs) h k =
+    longs (before_first (λ c. c == 61) (x ∷ xs)) (value_in (x ∷ xs)) (record { goes_on = rw (h, k) refl; long = rw (h, k) refl }) (rw (h, k) refl)
 
 pub lexed : (word : Text) → Lexed word
-lexed [] = plains refl refl refl refl
+lexed [] = plains (record { goes_on = refl; no_long = refl; no_short = refl }) refl
 lexed (a ∷ []) = elim (cases_Bool (a == 45)) [
-  | inl h ↦ plains (rw h refl) (rw h refl) (rw h refl) refl
-  | inr h ↦ plains (rw h refl) (rw h refl) (rw h refl) refl
+  | inl h ↦ plains (record { goes_on = rw h refl; no_long = rw h refl; no_short = rw h refl }) refl
+  | inr h ↦ plains (record { goes_on = rw h refl; no_long = rw h refl; no_short = rw h refl }) refl
 ]
 lexed (a ∷ b ∷ rest) = elim (cases_Bool (a == 45)) [
   | inl h ↦ elim (cases_Bool (b == 45)) [
     | inl k ↦ double a b rest h k
-    | inr k ↦ shorts b rest (rw (h, k) refl) (rw (h, k) refl) (rw (h, k) refl) (rw (h, k) refl) (ap (λ (x : ℕ). x ∷ b ∷ rest) (eqb-true a 45 h))
+    | inr k ↦
+        let short : IsShort (a ∷ b ∷ rest) b rest = record { goes_on = rw (h, k) refl; no_long = rw (h, k) refl; short = rw (h, k) refl } in
+        shorts b rest short (rw (h, k) refl) (ap (λ (x : ℕ). x ∷ b ∷ rest) (eqb-true a 45 h))
   ]
-  | inr h ↦ plains (rw h refl) (rw h refl) (rw h refl) (rw h refl)
+  | inr h ↦ plains (record { goes_on = rw h refl; no_long = rw h refl; no_short = rw h refl }) (rw h refl)
 ]
 
 -- a character follows a dash

@@ -5,7 +5,7 @@ use Rattle.std.specs.Prelude.{◌++◌, fold, unwrap_or}
 use Rattle.std.proofs.lemmas.Str.{IsUtf8-string_bytes}
 use Rattle.std.proofs.lemmas.Bool.{cases_Bool}
 use Rattle.std.proofs.option.Match.{None-if_not_some}
-use Rattle.clap.specs.Walk.{Held, Row, Rule, Text, finished, has_row, idle, nothing_held, rows_after, rows_of, settled, walk, walk_from, with_default}
+use Rattle.clap.specs.Walk.{Held, Row, Rule, Text, finished, has_row, nothing_held, rows_after, rows_of, settled, walk, walk_from, with_default}
 use Rattle.clap.specs.Simple.{App, HasMatchesOf, built, matches_of}
 use Rattle.clap.specs.Kinds.{HasKind, IsAmong, Kinds, or_else}
 use Rattle.clap.specs.Values.{kind_of}
@@ -26,10 +26,10 @@ use Rattle.switch_words.specs.Options.{Flag, slots, journal, reference, queues, 
 use Rattle.switch_words.specs.LineSteps.{flags_for, line_for, lookup_in, parts_in, parts_of}
 use Rattle.switch_words.specs.Parts.{no_parts, parts_from}
 use Rattle.switch_words.proofs.Rows.{has_row-lookup, lookup-with, put}
-use Rattle.switch_words.proofs.Rules.{HasRules, flag_id, flag_rule, has_rules, names_rule, rules_for, shape_with}
+use Rattle.switch_words.proofs.Rules.{HasRules, flag_id, flag_rule, has_rules, names_rule, rules_for, shape_of}
 use Rattle.switch_words.proofs.Sound.{IsSound, parts_in-put_default}
 use Rattle.switch_words.proofs.Unless.{unless, unless-or_else}
-use Rattle.switch_words.proofs.Turns.{idle_open, or_once}
+use Rattle.switch_words.proofs.Turns.{idle_at, idle_open, or_once}
 use Rattle.switch_words.proofs.Readings.{AreTexts, reads}
 
 -- an argument has no default, or is a flag
@@ -82,18 +82,18 @@ nothing_sound = record { texts = λ id. refl; flag = λ f. refl }
 no_more : {A : Type 0} (a b d e : Kinds) (o : Option A) → d ≡ [] → e ≡ [] → unless (or_else a (or_else [] (or_else b (or_else d e)))) o ≡ unless a (unless b o)
 no_more a b d e o no_d no_e = rw (no_d, no_e) (unless-or_else a (or_else b []) o ∙ ap (unless a) (or_once b o))
 
-level : (n : Text) (command : Command) (c : List Rule) (words : List Text) → HasRules command c → AreUsual c → AreTexts words
-    → ((rows : List Row) → check_fault (shape_with n c) rows false ≡ [])
-    → unless (level_fault (shape_with n c) [] nothing_held words false [])
+level : (command : Command) (c : List Rule) (words : List Text) → HasRules command c → AreUsual c → AreTexts words
+    → ((rows : List Row) → check_fault (shape_of c) rows false ≡ [])
+    → unless (level_fault (shape_of c) [] nothing_held words false [])
     (Some (parts_in (lookup_in (rows_after c [] words)))) ≡ parts_from command None no_parts words
-level n command c words has usual texts optional =
+level command c words has usual texts optional =
     let end : Held = (walk c [] nothing_held words).held in
-    no_more (walk_fault (shape_with n c) [] (walk_from nothing_held) words) (settle_fault c false end) (defaults_fault (settled c end).rows c)
-    (check_fault (shape_with n c) (finished c end) false) _
+    no_more (walk_fault (shape_of c) [] (walk_from nothing_held) words) (settle_fault c false end) (defaults_fault (settled c end).rows c)
+    (check_fault (shape_of c) (finished c end) false) _
     (no_faults c usual (settled c end).rows) (optional (finished c end))
-    ∙ (ap (λ p. unless (walk_fault (shape_with n c) [] (walk_from nothing_held) words) (unless (settle_fault c false end) (Some p)))
+    ∙ (ap (λ p. unless (walk_fault (shape_of c) [] (walk_from nothing_held) words) (unless (settle_fault c false end) (Some p)))
     (same_defaults c usual (settled c end).rows)
-    ∙ (reads n command c has words texts).anywhere [] None idle idle_open (λ none. nothing_sound))
+    ∙ (reads command c has words texts).anywhere (idle_at []) idle_open (λ none. nothing_sound))
 
 -- ---- the command line of a command
 
@@ -134,7 +134,7 @@ usual Firm = (inl refl, (inl refl, (inl refl, (inl refl, (inr (long, refl), (inl
 
 -- a command has no subcommand: one level is all
 one_level : (command : Command) (words : List Text)
-    → fault_of (line_for command) words ≡ level_fault (shape_with (codes "tiny_tera") (rules_for command)) [] nothing_held (drop 1 words) false []
+    → fault_of (line_for command) words ≡ level_fault (shape_of (rules_for command)) [] nothing_held (drop 1 words) false []
 one_level Run words = leaf_fault (built (line_for Run)) nothing_held (drop 1 words) refl
 one_level Gen words = leaf_fault (built (line_for Gen)) nothing_held (drop 1 words) refl
 one_level Check words = leaf_fault (built (line_for Check)) nothing_held (drop 1 words) refl
@@ -145,16 +145,16 @@ pub parse_reads : (command : Command) (words : List Text) → AreTexts (drop 1 w
     (drop 1 words)
 parse_reads Run words texts =
     ap (λ (k : Kinds). unless k (Some (parts_in (lookup_in (matches_of (line_for Run) words))))) (one_level Run words)
-    ∙ level (codes "tiny_tera") Run (rules_for Run) (drop 1 words) (has_rules Run) (usual Run) texts (λ rows. refl)
+    ∙ level Run (rules_for Run) (drop 1 words) (has_rules Run) (usual Run) texts (λ rows. refl)
 parse_reads Gen words texts =
     ap (λ (k : Kinds). unless k (Some (parts_in (lookup_in (matches_of (line_for Gen) words))))) (one_level Gen words)
-    ∙ level (codes "tiny_tera") Gen (rules_for Gen) (drop 1 words) (has_rules Gen) (usual Gen) texts (λ rows. refl)
+    ∙ level Gen (rules_for Gen) (drop 1 words) (has_rules Gen) (usual Gen) texts (λ rows. refl)
 parse_reads Check words texts =
     ap (λ (k : Kinds). unless k (Some (parts_in (lookup_in (matches_of (line_for Check) words))))) (one_level Check words)
-    ∙ level (codes "tiny_tera") Check (rules_for Check) (drop 1 words) (has_rules Check) (usual Check) texts (λ rows. refl)
+    ∙ level Check (rules_for Check) (drop 1 words) (has_rules Check) (usual Check) texts (λ rows. refl)
 parse_reads Firm words texts =
     ap (λ (k : Kinds). unless k (Some (parts_in (lookup_in (matches_of (line_for Firm) words))))) (one_level Firm words)
-    ∙ level (codes "tiny_tera") Firm (rules_for Firm) (drop 1 words) (has_rules Firm) (usual Firm) texts (λ rows. refl)
+    ∙ level Firm (rules_for Firm) (drop 1 words) (has_rules Firm) (usual Firm) texts (λ rows. refl)
 
 -- where no kind of error comes, the matches say the parts
 pub parse_ok : (command : Command) (words : List Text) (line : App) (m : ArgMatches) → line ≡ line_for command → AreTexts (drop 1 words)

@@ -44,8 +44,8 @@ abbrev pub rules_for : Command → List Rule
 rules_for command = map option_rule (options_for command) ++ (map flag_rule (flags_for command) ++ names_rule ∷ [])
 
 -- the command of these rules, once it is built
-abbrev pub shape_with : Text → List Rule → Shape
-shape_with name rules = record (new_shape name) {
+abbrev pub shape_of : List Rule → Shape
+shape_of rules = record (new_shape (codes "tiny_tera")) {
   rules = rules;
   disable_help_flag = true;
   disable_help_subcommand = true;
@@ -177,22 +177,13 @@ named name = elim (cases_Bool (bytes_eq (codes "rounds") name)) [
 ]
 
 -- no command has an option of another name
-none_met : (command : Command) (name : Text)
-    → bytes_eq (codes "rounds") name ≡ false → bytes_eq (codes "depth") name ≡ false → bytes_eq (codes "workers") name ≡ false
-    → bytes_eq (codes "pace-us") name ≡ false → bytes_eq (codes "line-rate") name ≡ false → bytes_eq (codes "scheduler") name ≡ false
-    → bytes_eq (codes "slots") name ≡ false
-    → bytes_eq (codes "journal") name ≡ false → bytes_eq (codes "reference") name ≡ false → bytes_eq (codes "queues") name ≡ false
-    → bytes_eq (codes "packets") name ≡ false → bytes_eq (codes "alone") name ≡ false → bytes_eq (codes "long") name ≡ false
-    → IsMet (rules_for command) name (option_of command name)
-none_met Run name a b d e r s f g k m n o l = rw (a, b, d, e, r, s, f, g, k, m, n, o, l) (rw (a, b, d, e, r, s, f, g, k, m, n, o, l) refl)
-none_met Gen name a b d e r s f g k m n o l = rw (a, b, d, e, r, s, f, g, k, m, n, o, l) (rw (a, b, d, s) refl)
-none_met Check name a b d e r s f g k m n o l = rw (a, b, d, e, r, s, f, g, k, m, n, o, l) (rw s refl)
-none_met Firm name a b d e r s f g k m n o l = rw (a, b, d, e, r, s, f, g, k, m, n, o, l) (rw (a, b, e, r, l) refl)
-
 long_met : (command : Command) (name : Text) → Named name → IsMet (rules_for command) name (option_of command name)
 long_met command name (setting s is) = subst (λ (n : Text). IsMet (rules_for command) n (option_of command n)) is (met_value command s)
 long_met command name (switch f is) = subst (λ (n : Text). IsMet (rules_for command) n (option_of command n)) is (met_flag command f)
-long_met command name (unknown a b d e r s f g k m n o l) = none_met command name a b d e r s f g k m n o l
+long_met Run name (unknown a b d e r s f g k m n o l) = rw (a, b, d, e, r, s, f, g, k, m, n, o, l) (rw (a, b, d, e, r, s, f, g, k, m, n, o, l) refl)
+long_met Gen name (unknown a b d e r s f g k m n o l) = rw (a, b, d, e, r, s, f, g, k, m, n, o, l) (rw (a, b, d, s) refl)
+long_met Check name (unknown a b d e r s f g k m n o l) = rw (a, b, d, e, r, s, f, g, k, m, n, o, l) (rw s refl)
+long_met Firm name (unknown a b d e r s f g k m n o l) = rw (a, b, d, e, r, s, f, g, k, m, n, o, l) (rw (a, b, e, r, l) refl)
 
 pub has_rules : (command : Command) → HasRules command (rules_for command)
 has_rules Run = record { short = λ x. refl; place = refl; by_id = refl; long = λ name. long_met Run name (named name) }

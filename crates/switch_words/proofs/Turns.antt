@@ -2,7 +2,7 @@
 use Rattle.std.proofs.Common.{◌≡◌, ◌∙◌, ◌&&◌, ap₂, Bool, true, false, List, [], ◌∷◌, Option, None, Some, is_some, refl, ℕ, codes}
 use Rattle.std.specs.Prelude.{fold, slice_get}
 use Rattle.std.specs.Str.{bytes_eq, chars}
-use Rattle.clap.specs.Lexer.{long_of, short_of}
+use Rattle.std.proofs.lemmas.Slice.Eq.{bytes_eq-Decides}
 use Rattle.clap.specs.Walk.{Held, Row, Rule, Text, Waiting, Walk, idle, option as awaits, positional, value as to_positional_step, arg_by_id}
 use Rattle.clap.specs.Walk.{arg_by_index, arg_by_long, arg_by_short, is_pending, plain_word, settled, settled_rows, subcommand_met, used, walked}
 use Rattle.clap.specs.Kinds.{Kinds, or_else}
@@ -10,51 +10,72 @@ use Rattle.clap.specs.Faults.{settle_fault, turn_fault, use_fault, walk_fault, f
 use Rattle.clap.specs.declared.error.kind.ErrorKind.TheVariants.{UnknownArgument, TooManyValues}
 use Rattle.switch_words.specs.LineSteps.{lookup_in, parts_in}
 use Rattle.switch_words.specs.Parts.{Parts}
-use Rattle.switch_words.proofs.Rules.{flag_rule, names_rule, option_rule, shape_with}
+use Rattle.switch_words.proofs.Rules.{flag_rule, names_rule, option_rule, shape_of}
+use Rattle.switch_words.proofs.Lexing.{IsLong, IsPlain, IsShort}
 use Rattle.switch_words.proofs.Unless.{unless, unless-or_else}
 
 abbrev pub Pending : Type 0
 Pending = Option (Text × List Text)
 
-abbrev pub held_at : List Row → Pending → Held
-held_at rows pending = record { rows = rows; pending = pending; skip = 0 }
+-- where a walk stands: at these rows and this pending argument, waiting for this
+pub record Place : Type 0 where
+  pub rows : List Row
+  pub pending : Pending
+  pub waiting : Waiting
 
-abbrev pub walk_at : List Row → Pending → Waiting → Bool → Walk
-walk_at rows pending waiting trailing =
-    record { held = held_at rows pending; waiting = waiting; position = 1; is_trailing = trailing; stopped = None }
+abbrev pub place : List Row → Pending → Waiting → Place
+place rows pending waiting = record { rows = rows; pending = pending; waiting = waiting }
+
+abbrev pub held_at : Place → Held
+held_at at = record { rows = at.rows; pending = at.pending; skip = 0 }
+
+abbrev pub walk_at : Place → Bool → Walk
+walk_at at trailing = record { held = held_at at; waiting = at.waiting; position = 1; is_trailing = trailing; stopped = None }
 
 -- the kinds of error, and the rows, where the pending argument is used
-abbrev pub settles : List Rule → List Row → Pending → Kinds
-settles c rows pending = settle_fault c false (held_at rows pending)
+abbrev pub settles : List Rule → Place → Kinds
+settles c at = settle_fault c false (held_at at)
 
-abbrev pub after : List Rule → List Row → Pending → List Row
-after c rows pending = settled_rows c pending rows
+abbrev pub after : List Rule → Place → List Row
+after c at = settled_rows c at.pending at.rows
+
+-- with a name pending
+abbrev pub name_at : List Row → Text → Place
+name_at rows word = place rows (Some (codes "names", word ∷ [])) positional
+
+-- an option that waits for its value
+abbrev pub wait_at : List Row → Text → Place
+wait_at rows id = place rows (Some (id, [])) (awaits id)
+
+-- with nothing pending
+abbrev pub idle_at : List Row → Place
+idle_at rows = place rows None idle
 
 -- the parts where the words end
 abbrev pub ended : List Rule → Held → Option Parts
 ended c h = unless (settle_fault c false h) (Some (parts_in (lookup_in (settled c h).rows)))
 
-abbrev pub outcome : Text → List Rule → Walk → List Text → Option Parts
-outcome n c w words = unless (walk_fault (shape_with n c) [] w words) (ended c (fold (walked c []) w words).held)
+abbrev pub outcome : List Rule → Walk → List Text → Option Parts
+outcome c w words = unless (walk_fault (shape_of c) [] w words) (ended c (fold (walked c []) w words).held)
 
-pub outcome-end : (n : Text) (c : List Rule) (w : Walk) → outcome n c w [] ≡ ended c w.held
+pub outcome-end : (c : List Rule) (w : Walk) → outcome c w [] ≡ ended c w.held
 unfolding walk_fault
-outcome-end n c w = refl
+outcome-end c w = refl
 
-outcome-step : (n : Text) (c : List Rule) (w : Walk) (word : Text) (rest : List Text)
-    → outcome n c w (word ∷ rest) ≡ unless (turn_fault (shape_with n c) [] w word) (outcome n c (walked c [] w word) rest)
+outcome-step : (c : List Rule) (w : Walk) (word : Text) (rest : List Text)
+    → outcome c w (word ∷ rest) ≡ unless (turn_fault (shape_of c) [] w word) (outcome c (walked c [] w word) rest)
 unfolding walk_fault
-outcome-step n c w word rest = unless-or_else (turn_fault (shape_with n c) [] w word) (walk_fault (shape_with n c) [] (walked c [] w word) rest)
+outcome-step c w word rest = unless-or_else (turn_fault (shape_of c) [] w word) (walk_fault (shape_of c) [] (walked c [] w word) rest)
     (ended c (fold (walked c []) (walked c [] w word) rest).held)
 
-step-by : (n : Text) (c : List Rule) (w next : Walk) (word : Text) (rest : List Text) (kinds : Kinds) → turn_fault (shape_with n c) [] w word ≡ kinds
-    → walked c [] w word ≡ next → outcome n c w (word ∷ rest) ≡ unless kinds (outcome n c next rest)
-step-by n c w next word rest kinds turn walk =
-    outcome-step n c w word rest ∙ ap₂ (λ (k : Kinds) (v : Walk). unless k (outcome n c v rest)) turn walk
+step-by : (c : List Rule) (w next : Walk) (word : Text) (rest : List Text) (kinds : Kinds) → turn_fault (shape_of c) [] w word ≡ kinds
+    → walked c [] w word ≡ next → outcome c w (word ∷ rest) ≡ unless kinds (outcome c next rest)
+step-by c w next word rest kinds turn walk =
+    outcome-step c w word rest ∙ ap₂ (λ (k : Kinds) (v : Walk). unless k (outcome c v rest)) turn walk
 
-refuse-by : (n : Text) (c : List Rule) (w : Walk) (word : Text) (rest : List Text) → turn_fault (shape_with n c) [] w word ≡ UnknownArgument ∷ []
-    → outcome n c w (word ∷ rest) ≡ None
-refuse-by n c w word rest turn = step-by n c w (walked c [] w word) word rest (UnknownArgument ∷ []) turn refl
+refuse-by : (c : List Rule) (w : Walk) (word : Text) (rest : List Text) → turn_fault (shape_of c) [] w word ≡ UnknownArgument ∷ []
+    → outcome c w (word ∷ rest) ≡ None
+refuse-by c w word rest turn = step-by c w (walked c [] w word) word rest (UnknownArgument ∷ []) turn refl
 
 no_sub : (waiting : Waiting) (word : Text) → subcommand_met [] waiting word ≡ None
 no_sub idle word = refl
@@ -86,88 +107,76 @@ positional_open c word h = refl
 
 -- ---- `--`
 
-pub out-closing : (n : Text) (c : List Rule) (rows : List Row) (pending : Pending) (waiting : Waiting) (word : Text) (rest : List Text)
-    → bytes_eq word (45 ∷ 45 ∷ []) ≡ true
-    → outcome n c (walk_at rows pending waiting false) (word ∷ rest) ≡ outcome n c (walk_at rows pending waiting true) rest
+pub out-closing : (c : List Rule) (at : Place) (word : Text) (rest : List Text) → bytes_eq word (45 ∷ 45 ∷ []) ≡ true
+    → outcome c (walk_at at false) (word ∷ rest) ≡ outcome c (walk_at at true) rest
 unfolding walked
-out-closing n c rows pending waiting word rest e =
-    step-by n c (walk_at rows pending waiting false) (walk_at rows pending waiting true) word rest []
-    (rw (no_sub waiting word, e) refl) (rw (no_sub waiting word, e) refl)
+out-closing c at word rest e =
+    step-by c (walk_at at false) (walk_at at true) word rest [] (rw (no_sub at.waiting word, e) refl) (rw (no_sub at.waiting word, e) refl)
 
 -- ---- a name
 
-pub out-trailing : (n : Text) (c : List Rule) (rows : List Row) (pending : Pending) (waiting : Waiting) (word : Text) (rest : List Text)
-    → arg_by_index c 1 ≡ Some names_rule
-    → outcome n c (walk_at rows pending waiting true) (word ∷ rest)
-    ≡ unless (settles c rows pending) (outcome n c (walk_at (after c rows pending) (Some (codes "names", word ∷ [])) positional true) rest)
+pub out-trailing : (c : List Rule) (at : Place) (word : Text) (rest : List Text) → arg_by_index c 1 ≡ Some names_rule
+    → outcome c (walk_at at true) (word ∷ rest) ≡ unless (settles c at) (outcome c (walk_at (name_at (after c at) word) true) rest)
 unfolding walked
-out-trailing n c rows pending waiting word rest place =
-    step-by n c (walk_at rows pending waiting true) (walk_at (after c rows pending) (Some (codes "names", word ∷ [])) positional true) word rest
-    (settles c rows pending)
-    (rw (place, and_false (is_pending names_rule pending)) refl) (rw (place, and_false (is_pending names_rule pending)) refl)
+out-trailing c at word rest found =
+    step-by c (walk_at at true) (walk_at (name_at (after c at) word) true) word rest (settles c at)
+    (rw (found, and_false (is_pending names_rule at.pending)) refl) (rw (found, and_false (is_pending names_rule at.pending)) refl)
 
-pub out-plain : (n : Text) (c : List Rule) (rows : List Row) (pending : Pending) (waiting : Waiting) (word : Text) (rest : List Text)
-    → arg_by_index c 1 ≡ Some names_rule → IsOpen waiting
-    → bytes_eq word (45 ∷ 45 ∷ []) ≡ false → long_of word ≡ None → short_of word ≡ None
-    → outcome n c (walk_at rows pending waiting false) (word ∷ rest)
-    ≡ unless (settles c rows pending) (outcome n c (walk_at (after c rows pending) (Some (codes "names", word ∷ [])) positional false) rest)
+pub out-plain : (c : List Rule) (at : Place) (word : Text) (rest : List Text) → arg_by_index c 1 ≡ Some names_rule → IsOpen at.waiting → IsPlain word
+    → outcome c (walk_at at false) (word ∷ rest) ≡ unless (settles c at) (outcome c (walk_at (name_at (after c at) word) false) rest)
 unfolding walked
-out-plain n c rows pending waiting word rest place is_open e long short =
-    step-by n c (walk_at rows pending waiting false) (walk_at (after c rows pending) (Some (codes "names", word ∷ [])) positional false) word rest
-    (settles c rows pending)
-    (rw (no_sub waiting word, e, long, short, is_open c word (held_at rows pending), place, and_false (is_pending names_rule pending)) refl)
-    (rw (no_sub waiting word, e, long, short, is_open c word (held_at rows pending), place, and_false (is_pending names_rule pending)) refl)
+out-plain c at word rest found is_open is =
+    let opens = is_open c word (held_at at) in
+    let never = and_false (is_pending names_rule at.pending) in
+    step-by c (walk_at at false) (walk_at (name_at (after c at) word) false) word rest (settles c at)
+    (rw (no_sub at.waiting word, is.goes_on, is.no_long, is.no_short, opens, found, never) refl)
+    (rw (no_sub at.waiting word, is.goes_on, is.no_long, is.no_short, opens, found, never) refl)
 
 -- ---- an option
 
-pub out-unknown : (n : Text) (c : List Rule) (rows : List Row) (pending : Pending) (waiting : Waiting) (word : Text) (rest : List Text) (name : Text)
-    (v : Option Text)
-    → bytes_eq word (45 ∷ 45 ∷ []) ≡ false → long_of word ≡ Some (name, v) → arg_by_long c name ≡ None
-    → outcome n c (walk_at rows pending waiting false) (word ∷ rest) ≡ None
-out-unknown n c rows pending waiting word rest name v e long found =
-    refuse-by n c (walk_at rows pending waiting false) word rest (rw (no_sub waiting word, e, long, found) refl)
+pub out-unknown : (c : List Rule) (at : Place) (word : Text) (rest : List Text) (name : Text) (v : Option Text) → IsLong word name v
+    → arg_by_long c name ≡ None → outcome c (walk_at at false) (word ∷ rest) ≡ None
+out-unknown c at word rest name v is found =
+    refuse-by c (walk_at at false) word rest (rw (no_sub at.waiting word, is.goes_on, is.long, found) refl)
 
-pub out-value : (n : Text) (c : List Rule) (rows : List Row) (pending : Pending) (waiting : Waiting) (word : Text) (rest : List Text) (name v id : Text)
-    → bytes_eq word (45 ∷ 45 ∷ []) ≡ false → long_of word ≡ Some (name, Some v) → arg_by_long c name ≡ Some (option_rule id)
-    → outcome n c (walk_at rows pending waiting false) (word ∷ rest)
-    ≡ unless (settles c rows pending) (unless (use_fault false (option_rule id) (v ∷ []) (after c rows pending))
-    (outcome n c (walk_at (used (option_rule id) (v ∷ []) (after c rows pending)) None idle false) rest))
+pub out-value : (c : List Rule) (at : Place) (word : Text) (rest : List Text) (name v id : Text) → IsLong word name (Some v)
+    → arg_by_long c name ≡ Some (option_rule id)
+    → outcome c (walk_at at false) (word ∷ rest)
+    ≡ unless (settles c at) (unless (use_fault false (option_rule id) (v ∷ []) (after c at))
+    (outcome c (walk_at (idle_at (used (option_rule id) (v ∷ []) (after c at))) false) rest))
 unfolding walked
-out-value n c rows pending waiting word rest name v id e long found =
-    step-by n c (walk_at rows pending waiting false) (walk_at (used (option_rule id) (v ∷ []) (after c rows pending)) None idle false) word rest
-    (or_else (or_else (settles c rows pending) (use_fault false (option_rule id) (v ∷ []) (after c rows pending))) [])
-    (rw (no_sub waiting word, e, long, found) refl) (rw (no_sub waiting word, e, long, found) refl)
-    ∙ or_twice (settles c rows pending) (use_fault false (option_rule id) (v ∷ []) (after c rows pending)) _
+out-value c at word rest name v id is found =
+    step-by c (walk_at at false) (walk_at (idle_at (used (option_rule id) (v ∷ []) (after c at))) false) word rest
+    (or_else (or_else (settles c at) (use_fault false (option_rule id) (v ∷ []) (after c at))) [])
+    (rw (no_sub at.waiting word, is.goes_on, is.long, found) refl) (rw (no_sub at.waiting word, is.goes_on, is.long, found) refl)
+    ∙ or_twice (settles c at) (use_fault false (option_rule id) (v ∷ []) (after c at)) _
 
-pub out-wait : (n : Text) (c : List Rule) (rows : List Row) (pending : Pending) (waiting : Waiting) (word : Text) (rest : List Text) (name id : Text)
-    → bytes_eq word (45 ∷ 45 ∷ []) ≡ false → long_of word ≡ Some (name, None) → arg_by_long c name ≡ Some (option_rule id)
-    → outcome n c (walk_at rows pending waiting false) (word ∷ rest)
-    ≡ unless (settles c rows pending) (outcome n c (walk_at (after c rows pending) (Some (id, [])) (awaits id) false) rest)
+pub out-wait : (c : List Rule) (at : Place) (word : Text) (rest : List Text) (name id : Text) → IsLong word name None
+    → arg_by_long c name ≡ Some (option_rule id)
+    → outcome c (walk_at at false) (word ∷ rest) ≡ unless (settles c at) (outcome c (walk_at (wait_at (after c at) id) false) rest)
 unfolding walked
-out-wait n c rows pending waiting word rest name id e long found =
-    step-by n c (walk_at rows pending waiting false) (walk_at (after c rows pending) (Some (id, [])) (awaits id) false) word rest
-    (or_else (settles c rows pending) [])
-    (rw (no_sub waiting word, e, long, found) refl) (rw (no_sub waiting word, e, long, found) refl)
-    ∙ or_once (settles c rows pending) _
+out-wait c at word rest name id is found =
+    step-by c (walk_at at false) (walk_at (wait_at (after c at) id) false) word rest (or_else (settles c at) [])
+    (rw (no_sub at.waiting word, is.goes_on, is.long, found) refl) (rw (no_sub at.waiting word, is.goes_on, is.long, found) refl)
+    ∙ or_once (settles c at) _
 
-pub out-flag : (n : Text) (c : List Rule) (rows : List Row) (pending : Pending) (waiting : Waiting) (word : Text) (rest : List Text) (name id : Text)
-    → bytes_eq word (45 ∷ 45 ∷ []) ≡ false → long_of word ≡ Some (name, None) → arg_by_long c name ≡ Some (flag_rule id)
-    → outcome n c (walk_at rows pending waiting false) (word ∷ rest)
-    ≡ unless (settles c rows pending) (unless (use_fault false (flag_rule id) [] (after c rows pending))
-    (outcome n c (walk_at (used (flag_rule id) [] (after c rows pending)) None idle false) rest))
+pub out-flag : (c : List Rule) (at : Place) (word : Text) (rest : List Text) (name id : Text) → IsLong word name None
+    → arg_by_long c name ≡ Some (flag_rule id)
+    → outcome c (walk_at at false) (word ∷ rest)
+    ≡ unless (settles c at) (unless (use_fault false (flag_rule id) [] (after c at))
+    (outcome c (walk_at (idle_at (used (flag_rule id) [] (after c at))) false) rest))
 unfolding walked
-out-flag n c rows pending waiting word rest name id e long found =
-    step-by n c (walk_at rows pending waiting false) (walk_at (used (flag_rule id) [] (after c rows pending)) None idle false) word rest
-    (or_else (or_else (settles c rows pending) (use_fault false (flag_rule id) [] (after c rows pending))) [])
-    (rw (no_sub waiting word, e, long, found) refl) (rw (no_sub waiting word, e, long, found) refl)
-    ∙ or_twice (settles c rows pending) (use_fault false (flag_rule id) [] (after c rows pending)) _
+out-flag c at word rest name id is found =
+    step-by c (walk_at at false) (walk_at (idle_at (used (flag_rule id) [] (after c at))) false) word rest
+    (or_else (or_else (settles c at) (use_fault false (flag_rule id) [] (after c at))) [])
+    (rw (no_sub at.waiting word, is.goes_on, is.long, found) refl) (rw (no_sub at.waiting word, is.goes_on, is.long, found) refl)
+    ∙ or_twice (settles c at) (use_fault false (flag_rule id) [] (after c at)) _
 
-pub out-flag_value : (n : Text) (c : List Rule) (rows : List Row) (pending : Pending) (waiting : Waiting) (word : Text) (rest : List Text) (name v id : Text)
-    → bytes_eq word (45 ∷ 45 ∷ []) ≡ false → long_of word ≡ Some (name, Some v) → arg_by_long c name ≡ Some (flag_rule id)
-    → outcome n c (walk_at rows pending waiting false) (word ∷ rest) ≡ None
-out-flag_value n c rows pending waiting word rest name v id e long found =
-    step-by n c (walk_at rows pending waiting false) (walked c [] (walk_at rows pending waiting false) word) word rest (TooManyValues ∷ [])
-    (rw (no_sub waiting word, e, long, found) refl) refl
+pub out-flag_value : (c : List Rule) (at : Place) (word : Text) (rest : List Text) (name v id : Text) → IsLong word name (Some v)
+    → arg_by_long c name ≡ Some (flag_rule id) → outcome c (walk_at at false) (word ∷ rest) ≡ None
+out-flag_value c at word rest name v id is found =
+    step-by c (walk_at at false) (walked c [] (walk_at at false) word) word rest (TooManyValues ∷ [])
+    (rw (no_sub at.waiting word, is.goes_on, is.long, found) refl) refl
 
 -- ---- one dash
 
@@ -175,22 +184,19 @@ some_is : {A : Type 0} (o : Option A) → is_some o ≡ true → (x : A) × (o �
 some_is None h = cc
 some_is (Some x) h = (x, refl)
 
-pub out-short : (n : Text) (c : List Rule) (rows : List Row) (pending : Pending) (waiting : Waiting) (word : Text) (rest : List Text) (b : ℕ) (flags : Text)
-    → bytes_eq word (45 ∷ 45 ∷ []) ≡ false → long_of word ≡ None → short_of word ≡ Some (b ∷ flags) → is_some (slice_get (chars (b ∷ flags)) 0) ≡ true
-    → ((x : ℕ) → arg_by_short c x ≡ None)
-    → outcome n c (walk_at rows pending waiting false) (word ∷ rest) ≡ None
+pub out-short : (c : List Rule) (at : Place) (word : Text) (rest : List Text) (b : ℕ) (flags : Text) → IsShort word b flags
+    → is_some (slice_get (chars (b ∷ flags)) 0) ≡ true → ((x : ℕ) → arg_by_short c x ≡ None) → outcome c (walk_at at false) (word ∷ rest) ≡ None
 unfolding flags_fault
-out-short n c rows pending waiting word rest b flags e long short char none =
+out-short c at word rest b flags is char none =
     let x = some_is (slice_get (chars (b ∷ flags)) 0) char in
-    refuse-by n c (walk_at rows pending waiting false) word rest (rw (no_sub waiting word, e, long, short, x.1, none x.0) refl)
+    refuse-by c (walk_at at false) word rest (rw (no_sub at.waiting word, is.goes_on, is.no_long, is.short, x.1, none x.0) refl)
 
 -- ---- the value of an option in the next word
 
-pub out-given : (n : Text) (c : List Rule) (rows : List Row) (word : Text) (rest : List Text) (id : Text)
-    → arg_by_id c id ≡ Some (option_rule id) → bytes_eq id id ≡ true
-    → bytes_eq word (45 ∷ 45 ∷ []) ≡ false → long_of word ≡ None → short_of word ≡ None
-    → outcome n c (walk_at rows (Some (id, [])) (awaits id) false) (word ∷ rest) ≡ outcome n c (walk_at rows (Some (id, word ∷ [])) idle false) rest
+pub out-given : (c : List Rule) (rows : List Row) (word : Text) (rest : List Text) (id : Text) → arg_by_id c id ≡ Some (option_rule id) → IsPlain word
+    → outcome c (walk_at (wait_at rows id) false) (word ∷ rest) ≡ outcome c (walk_at (place rows (Some (id, word ∷ [])) idle) false) rest
 unfolding walked
-out-given n c rows word rest id found same e long short =
-    step-by n c (walk_at rows (Some (id, [])) (awaits id) false) (walk_at rows (Some (id, word ∷ [])) idle false) word rest []
-    (rw (e, long, short) refl) (rw (e, long, short, found, same) refl)
+out-given c rows word rest id found is =
+    let same : bytes_eq id id ≡ true = (bytes_eq-Decides id id).1 refl in
+    step-by c (walk_at (wait_at rows id) false) (walk_at (place rows (Some (id, word ∷ [])) idle) false) word rest []
+    (rw (is.goes_on, is.no_long, is.no_short) refl) (rw (is.goes_on, is.no_long, is.no_short, found, same) refl)

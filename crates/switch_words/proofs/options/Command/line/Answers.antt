@@ -1,10 +1,14 @@
+use Rattle.std.proofs.Common.{◌∙◌, ap₂, List, map}
 use Rattle.std.proofs.lemmas.Result.{IfOk-weaker}
-use Rattle.clap.specs.Words.{app_of, rule_of}
+use Rattle.clap.specs.Simple.{App, with_rule}
+use Rattle.clap.specs.Walk.{Text}
+use Rattle.switch_words.specs.LineSteps.{flag_arg, option_arg, with_rules}
 use Rattle.switch_words.proofs.RuleLists.{line_is}
 use Rattle.switch_words.proofs.options.Command.line.Goals as goal
 
 pub returns : goal.returns
 returns c = IfOk-weaker c.arg.result _ _ (λ line added.
-    line_is c.args.self (app_of c.bare_line.result) (app_of c.in_ok-line.line) (app_of c.in_ok-line-2.line) (app_of line) _ _ (rule_of c.names.result)
-    c.bare_line.ensures c.options.ensures c.flags.ensures c.names.ensures.rule c.in_ok-line.ensures c.in_ok-line-2.ensures
-    (added.shape c.names.ensures.local)) c.arg.ensures
+    let first = c.in_ok-line.ensures
+    ∙ ap₂ (λ (line : App) (ids : List Text). with_rules line (map option_arg ids)) c.bare_line.ensures c.options.ensures in
+    let second = c.in_ok-line-2.ensures ∙ ap₂ (λ (line : App) (ids : List Text). with_rules line (map flag_arg ids)) first c.flags.ensures in
+    added.shape c.names.ensures.local ∙ (ap₂ with_rule second c.names.ensures.rule ∙ line_is c.args.self)) c.arg.ensures
