@@ -104,10 +104,10 @@ flow_firsts : (i level : ℕ) (kind : Kind) (card : Plan) (w : List FanCell) →
 flow_firsts i level kind card [] are = refl
 flow_firsts i level kind card (c ∷ w) are = flow_one i level kind (cell_named card c.name) are
 
-flow_others : (i level : ℕ) (kind : Kind) (x m : ℕ) (k : Kind) (card : Plan) (w : List FanCell) → FirstsAre x m k card w
-    → ((x ≡ i) → (m ≡ level) → (k ≡ kind) → ⊥) → flow_cells i level kind (named card (first_of w)) ≡ []
-flow_others i level kind x m k card [] are other = refl
-flow_others i level kind x m k card (c ∷ w) are other =
+flow_others : (i level : ℕ) (kind : Kind) (fed : Fed) (card : Plan) (w : List FanCell) → FirstsAre fed.input fed.level fed.kind card w
+    → ((fed.input ≡ i) → (fed.level ≡ level) → (fed.kind ≡ kind) → ⊥) → flow_cells i level kind (named card (first_of w)) ≡ []
+flow_others i level kind fed card [] are other = refl
+flow_others i level kind fed card (c ∷ w) are other =
     flow_none i level kind (cell_named card c.name) (λ from. other (sym are.0 ∙ from.0) (sym are.1 ∙ from.1) (sym are.2 ∙ from.2))
 
 -- ---- slot by slot
@@ -182,7 +182,7 @@ module _ (scheduler : Scheduler) (scheduling : IsScheduler scheduler) (plan : Sw
         let from = crossed_from fed.input j fed.level fed.kind t
         ((sound scheduler scheduling plan good t).matches.input_in fed.input j fed.level fed.kind feeds) in
         ap (flow_cells i level kind) (crossed_is fed.input j fed.level fed.kind t feeds)
-        ∙ flow_others i level kind fed.input fed.level fed.kind (card_at plan fed.input) (waits_at fed.input (queue_to j fed.level fed.kind) t) from
+        ∙ flow_others i level kind fed (card_at plan fed.input) (waits_at fed.input (queue_to j fed.level fed.kind) t) from
         (λ a b c. other (subst (λ k. Serves (matched_at t) i j level k) c
         (subst (λ m. Serves (matched_at t) i j m fed.kind) b (subst (λ x. Serves (matched_at t) x j fed.level fed.kind) a feeds))))
 

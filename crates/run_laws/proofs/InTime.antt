@@ -94,13 +94,21 @@ module _ (scheduler : Scheduler) (scheduling : IsScheduler scheduler) (plan : Sw
       take_all bound (drop first (schedule_under scheduler plan slots)) (omega arith) ∙ all
 
 -- ---- within the bound, or before the end
-pub serves-in_time_by : (Moves : Moving) (scheduler : Scheduler) (plan : SwitchPlan) (bound : ℕ) → IsScheduler scheduler → IsSchedulerBy Moves scheduler
-    → ((level : ℕ) → KeepPointing Moves (ports_of plan) level) → IsGood plan
-    → ((t level i j : ℕ) (places : Places) (part : List DecidedSlot) → i < ports_of plan
-    → IsKeptScheduleBy Moves (ports_of plan) plan.rounds t level places part → All (λ slot. IsQuietFor (ports_of plan) level j slot.rows) part
-    → InFirst (λ rows. Names (row_of rows i) level Uni j) part → bound ≤ length part → Any (λ slot. Serves slot.decision.matched i j level Uni) part)
-    → (slots : ℕ) → IsLengthUnder scheduler plan slots → ServesInTimeUnder scheduler plan slots bound
-serves-in_time_by Moves scheduler plan bound scheduling moving keep good enough slots ends first level i j below inside early quiet named =
+-- A scheduler that moves its pointers so that in so many slots in a row, in which nothing better is posted for its output, a
+-- unicast queue that is posted in the first is served.
+pub record ServesQuiet (Moves : Moving) (scheduler : Scheduler) (n rounds bound : ℕ) : Type 0 where
+  pub scheduling : IsScheduler scheduler
+  pub moving : IsSchedulerBy Moves scheduler
+  pub keep : (level : ℕ) → KeepPointing Moves n level
+  pub enough : (t level i j : ℕ) (places : Places) (part : List DecidedSlot) → i < n → IsKeptScheduleBy Moves n rounds t level places part
+      → All (λ slot. IsQuietFor n level j slot.rows) part → InFirst (λ rows. Names (row_of rows i) level Uni j) part → bound ≤ length part
+      → Any (λ slot. Serves slot.decision.matched i j level Uni) part
+
+pub serves-in_time_by : (Moves : Moving) (scheduler : Scheduler) (plan : SwitchPlan) (bound : ℕ)
+    → ServesQuiet Moves scheduler (ports_of plan) plan.rounds bound → IsGood plan → (slots : ℕ) → IsLengthUnder scheduler plan slots
+    → ServesInTimeUnder scheduler plan slots bound
+serves-in_time_by Moves scheduler plan bound serves good slots ends first level i j below inside early quiet named =
+    let scheduling = serves.scheduling in
     let n = ports_of plan in
     let slot = decided_under scheduler (setup_for plan) (posts_under scheduler plan) in
     let all = schedule_under scheduler plan slots in
@@ -116,15 +124,15 @@ serves-in_time_by Moves scheduler plan bound scheduling moving keep good enough 
           let is : part ≡ map slot (range_with_len first bound) = middle slot first bound slots many in
           let whole : IsKeptScheduleBy Moves n plan.rounds 0 level (places_at_first n) all = record {
             pointing = begins plan good level below;
-            schedule = run-schedule scheduler scheduling plan good Moves moving slots;
+            schedule = run-schedule scheduler scheduling plan good Moves serves.moving slots;
             within = run-within scheduler scheduling plan good slots;
             kept = run-kept scheduler scheduling plan good slots;
           } in
           let there : Names (row_of (slot first).rows i) level Uni j =
           subst (λ row. Names row level Uni j) (sym (row_of-slot_rows n (posts_under scheduler plan) first i inside)) named in
           let long : length part ≡ bound = ap length is ∙ length-map-range_with_len slot first bound in
-          enough (0 + first) level i j (places_after (places_at_first n) (take first all)) part inside
-          (part_is_kept_by Moves n plan.rounds 0 level first bound (places_at_first n) all (keep level) whole) quiet
+          serves.enough (0 + first) level i j (places_after (places_at_first n) (take first all)) part inside
+          (part_is_kept_by Moves n plan.rounds 0 level first bound (places_at_first n) all (serves.keep level) whole) quiet
           (subst (InFirst (λ rows. Names (row_of rows i) level Uni j)) (sym is)
           (in_first (λ rows. Names (row_of rows i) level Uni j) slot first bound there)) (omega arith)
     ]
@@ -132,9 +140,13 @@ serves-in_time_by Moves scheduler plan bound scheduling moving keep good enough 
 pub serves-in_time : (plan : SwitchPlan) (slots : ℕ) → IsGood plan → IsLength plan slots
     → ServesInTimeUnder decision_of plan slots (longest_service_by (ports_of plan) plan.rounds)
 serves-in_time plan slots good =
-    serves-in_time_by AreMoved decision_of plan (longest_service_by (ports_of plan) plan.rounds) IsScheduler-decision_of IsSchedulerBy-decision_of
-    (AreMoved-keep (ports_of plan)) good
-    (λ t level i j places part. quiet_served_by_rounds (ports_of plan) plan.rounds t level i j places part good.rounds.some) slots
+    serves-in_time_by AreMoved decision_of plan (longest_service_by (ports_of plan) plan.rounds)
+    (record {
+      scheduling = IsScheduler-decision_of;
+      moving = IsSchedulerBy-decision_of;
+      keep = AreMoved-keep (ports_of plan);
+      enough = λ t level i j places part. quiet_served_by_rounds (ports_of plan) plan.rounds t level i j places part good.rounds.some;
+    }) good slots
 
 pub completes-in_time_by : (scheduler : Scheduler) (plan : SwitchPlan) → IsScheduler scheduler → IsGood plan → (slots : ℕ) → CompletesUnder scheduler plan slots
     → IsLengthUnder scheduler plan slots → CompletesInTimeUnder scheduler plan slots

@@ -64,24 +64,22 @@ module _ (scheduler : Scheduler) (plan : SwitchPlan) (slots : ℕ) where
       ap (λ l. let f : Flow = record { input = h; output = j; level = l; kind = kind_of (queue_of p) } in f) (sym of.1 ∙ of'.1)
       ∙ ap (λ k. let f : Flow = record { input = h; output = j; level = level_of (queue_of r); kind = k } in f) (sym of.2 ∙ of'.2)
 
-  one_input : (j i k m : ℕ) (p r : Planned) (t : ℕ) → Leaves scheduler plan slots i j k p → Leaves scheduler plan slots i j m r → flow_of i j p ≡ flow_of i j r
-      → departure_under scheduler plan slots i j k p ≡ Some t → departure_under scheduler plan slots i j m r ≡ Some t → k ≡ m
-  one_input j i k m p r t leaves leaves' same is is' = elim (cases_order k m) [
-    | inl equal ↦ equal
-    | inr (inl less) ↦ let l = rise i j k m p r t t leaves leaves' same less is is' in absurd (omega arith)
-    | inr (inr more) ↦ let l = rise i j m k r p t t leaves' leaves (sym same) more is' is in absurd (omega arith)
-  ]
-
   pub differ : DeparturesDiffer scheduler plan slots
   differ j i k h m p r t leaves leaves' is is' =
       let (cell, at, of) = end_flow (flow_of i j p) (ends_at (flow_of i j p) t) (departs i j k p t is).1 in
       let (cell', at', of'') = end_flow (flow_of h j r) (ends_at (flow_of h j r) t) (departs h j m r t is').1 in
       let one : cell' ≡ cell = same_Some cell' cell (sym at' ∙ at) in
       let of' : IsOfFlow h (level_of (queue_of r)) (kind_of (queue_of r)) cell = subst (IsOfFlow h (level_of (queue_of r)) (kind_of (queue_of r))) one of'' in
-      let input : i ≡ h = sym of.0 ∙ of'.0 in (
+      let input : i ≡ h = sym of.0 ∙ of'.0 in
+      let same = same_flow i h j p r cell of of' in
+      let mine = subst (λ x. Leaves scheduler plan slots x j k p) input leaves in
+      let there = subst (λ x. departure_under scheduler plan slots x j k p ≡ Some t) input is in (
         input,
-        one_input j h k m p r t (subst (λ x. Leaves scheduler plan slots x j k p) input leaves) leaves' (same_flow i h j p r cell of of')
-            (subst (λ x. departure_under scheduler plan slots x j k p ≡ Some t) input is) is',
+        elim (cases_order k m) [
+          | inl equal ↦ equal
+          | inr (inl less) ↦ let l = rise h j k m p r t t mine leaves' same less there is' in absurd (omega arith)
+          | inr (inr more) ↦ let l = rise h j m k r p t t leaves' mine (sym same) more is' there in absurd (omega arith)
+        ],
       )
 
 -- ---- there is a departure

@@ -1,8 +1,8 @@
 -- The cells of a queue that go to an output are those of the messages of its admitted packets that go there.
 use Rattle.std.proofs.Common.{◌≡◌, ◌≢◌, ◌∙◌, ℕ, suc, ◌+◌, ◌&&◌, ◌==◌, not, nat_lt, Bool, true, false, List, [], ◌∷◌, ◌++◌, map, filter, Option, Some}
-use Rattle.std.proofs.Common.{slice_get, refl, sym, ap, arith, if◌then◌else◌}
+use Rattle.std.proofs.Common.{slice_get, refl, sym, ap, arith, if◌then◌else◌, inl, inr}
 use Rattle.std.specs.List.{flat_map}
-use Rattle.std.proofs.lemmas.Bool.{and_parts, eq-eqb}
+use Rattle.std.proofs.lemmas.Bool.{and_parts, cases_Bool, eq-eqb}
 use Rattle.std.proofs.lemmas.List.{map-append}
 use Rattle.std.proofs.lemmas.List.Elements.{filter-append}
 use Rattle.slot_match.specs.declared.matching.Served.{Served}
@@ -48,24 +48,23 @@ module _ (plan : Plan) (good : IsGoodPlan plan) (q : Queue) (j : ℕ) where
   queue-cells k p there is =
       packet-cells plan good k p there ∙ ap (λ r. cells_of_message plan.card (level_of r) (kind_of r) (message_of plan p)) (sym is)
 
-  cells_step : (k : ℕ) (p : Planned) → slice_get plan.packets k ≡ Some p → (cells : List FanCell) (packets : List Planned) (b h : Bool)
-      → (b ≡ true → q ≡ queue_of p) → has p.fan j ≡ h
-      → named plan (to_output j cells) ≡ flat_map cells_of (map (message_of plan) packets)
+  cells_step : (k : ℕ) (p : Planned) → slice_get plan.packets k ≡ Some p → (cells : List FanCell) (packets : List Planned) (b : Bool)
+      → (b ≡ true → q ≡ queue_of p) → named plan (to_output j cells) ≡ flat_map cells_of (map (message_of plan) packets)
       → named plan (to_output j ((if b then cells_with_fan k (size_of p) p.fan else []) ++ cells)) ≡ flat_map cells_of
-      (map (message_of plan) (if b && h then p ∷ packets else packets))
-  cells_step k p there cells packets true true of goes rest =
+      (map (message_of plan) (if b && has p.fan j then p ∷ packets else packets))
+  cells_step k p there cells packets true of rest =
       let own = cells_with_fan k (size_of p) p.fan in
-      ap (named plan) (filter-append (λ (cell : FanCell). has cell.fan j) own cells
-      ∙ ap (λ w. w ++ to_output j cells) (all_go j p.fan (names_of_packet k (size_of p)) goes))
-      ∙ map-append (λ (cell : FanCell). cell_named plan cell.name) own (to_output j cells)
-      ∙ ap (λ w. w ++ named plan (to_output j cells)) (queue-cells k p there (of refl))
-      ∙ ap (λ w. cells_of (message_of plan p) ++ w) rest
-  cells_step k p there cells packets true false of goes rest =
-      let own = cells_with_fan k (size_of p) p.fan in
-      ap (named plan) (filter-append (λ (cell : FanCell). has cell.fan j) own cells
-      ∙ ap (λ w. w ++ to_output j cells) (none_goes j p.fan (names_of_packet k (size_of p)) goes))
-      ∙ rest
-  cells_step k p there cells packets false h of goes rest = rest
+      let kept = λ (h : Bool). flat_map cells_of (map (message_of plan) (if h then p ∷ packets else packets)) in
+      ap (named plan) (filter-append (λ (cell : FanCell). has cell.fan j) own cells)
+      ∙ elim (cases_Bool (has p.fan j)) [
+        | inl goes ↦
+            ap (λ w. named plan (w ++ to_output j cells)) (all_go j p.fan (names_of_packet k (size_of p)) goes)
+            ∙ map-append (λ (cell : FanCell). cell_named plan cell.name) own (to_output j cells)
+            ∙ ap (λ w. w ++ named plan (to_output j cells)) (queue-cells k p there (of refl))
+            ∙ ap (λ w. cells_of (message_of plan p) ++ w) rest ∙ ap kept (sym goes)
+        | inr none ↦ ap (λ w. named plan (w ++ to_output j cells)) (none_goes j p.fan (names_of_packet k (size_of p)) none) ∙ rest ∙ ap kept (sym none)
+      ]
+  cells_step k p there cells packets false of rest = rest
 
   hold_step : (k : ℕ) (p : Planned) → slice_get plan.packets k ≡ Some p → (packets : List Planned) (b h : Bool) → (b ≡ true → (q ≡ queue_of p) × (p.fan ≢ 0))
       → has p.fan j ≡ h
@@ -105,8 +104,7 @@ module _ (plan : Plan) (good : IsGoodPlan plan) (q : Queue) (j : ℕ) where
     cells_from k [] there = refl
     cells_from k (p ∷ ps) there =
         cells_step k p (here_is k p ps there) (cells_admitted plan q served t (k + 1) ps) (filter test ps)
-        (nat_lt p.arrival t && enters plan q served p) (has p.fan j) (λ b. (entering p b).0) refl
-        (cells_from (k + 1) ps (others_are k p ps there))
+        (nat_lt p.arrival t && enters plan q served p) (λ b. (entering p b).0) (cells_from (k + 1) ps (others_are k p ps there))
 
     hold_from : (k : ℕ) (ps : List Planned) → AreFrom k ps → AllHold (IsMessageTo plan q j) (map (message_of plan) (filter test ps))
     hold_from k [] there = tt

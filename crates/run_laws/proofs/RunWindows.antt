@@ -1,6 +1,6 @@
 -- Slots of a run are windows of its schedule, in which a queue waits no longer than the longest service.
 use Rattle.std.proofs.Common.{◌≡◌, ◌∙◌, ℕ, zero, suc, ◌+◌, ◌<◌, ◌≤◌, List, All, map, take, drop, length, refl, sym, ap, subst, arith}
-use Rattle.std.specs.Prelude.{slice_index_or, Any}
+use Rattle.std.specs.Prelude.{slice_index_or}
 use Rattle.std.specs.List.{range_with_len}
 use Rattle.std.proofs.lemmas.List.FromFn.{length-map-range_with_len, get_or-map-range_with_len}
 use Rattle.std_lemmas.proofs.Ranges.{middle}
@@ -9,7 +9,6 @@ use Rattle.rotating_pick.specs.declared.kinds.Kind.TheVariants.{Uni, Multi}
 use Rattle.rotating_pick.specs.declared.limits.TheConstants.{LEVELS}
 use Rattle.slot_match.specs.declared.rows.Row.{Row}
 use Rattle.slot_match.specs.Rows.{Names, row_of}
-use Rattle.slot_match.specs.Matches.{Serves}
 use Rattle.pointer_state.specs.Places.{ArePointing, places_at_first}
 use Rattle.pointer_state.proofs.Moves.{AreAtPorts-at_first}
 use Rattle.eslip_rounds.specs.Slots.{Moving, AreMoved}
@@ -31,6 +30,7 @@ use Rattle.run_laws.specs.Runs.{ports_of, setup_for, card_at, parts_under, posts
 use Rattle.run_laws.specs.RunSteps.{posts_in, IsBestLevel}
 use Rattle.run_laws.specs.Crossings.{queue_to}
 use Rattle.run_laws.specs.Sums.{schedule_under, run_schedule, IsBestUnder}
+use Rattle.run_laws.specs.Promises.{ServesWaiting}
 use Rattle.run_laws.proofs.Base.{good-card}
 use Rattle.run_laws.proofs.FlowCells.{level_to, kind_to}
 use Rattle.run_laws.proofs.LineRate.{at-line_rate}
@@ -51,13 +51,7 @@ module _ (plan : SwitchPlan) (good : IsGood plan) where
   abbrev slot_at : ℕ → DecidedSlot
   slot_at = decided_slot (setup_for plan) (posts_in plan)
 
-  pub served-in-window : (slots first level i j : ℕ) → level < LEVELS → i < ports_of plan
-      → first + longest_service_at_line_rate (ports_of plan) plan.rounds ≤ slots
-      → All (λ slot. IsClean (ports_of plan) level slot.rows × IsWithoutMulticast (ports_of plan) level slot.rows)
-      (take (longest_service_at_line_rate (ports_of plan) plan.rounds) (drop first (run_schedule plan slots)))
-      → Names (posts_in plan i first).row level Uni j
-      → Any (λ slot. Serves slot.decision.matched i j level Uni)
-      (take (longest_service_at_line_rate (ports_of plan) plan.rounds) (drop first (run_schedule plan slots)))
+  pub served-in-window : (slots : ℕ) → ServesWaiting plan slots
   served-in-window slots first level i j below inside few quiet named =
       let n = ports_of plan in
       let count = longest_service_at_line_rate n plan.rounds in

@@ -60,9 +60,13 @@ module _ (plan : SwitchPlan) (good : IsGood plan) (slots : ℕ) where
   -- within that number of slots, or before the end, also where only its output is asked for nothing better
   firm-serves_in_time : IsLengthUnder firm_decision plan slots → ServesInTimeUnder firm_decision plan slots (ports_of plan * ports_of plan)
   firm-serves_in_time =
-      serves-in_time_by AreMovedByFirm firm_decision plan (ports_of plan * ports_of plan) IsScheduler-firm_decision IsSchedulerBy-firm_decision
-      (firm_keep (ports_of plan)) good
-      (λ t level i j places part. firm_quiet_served_in_time (ports_of plan) plan.rounds t level i j places part good.rounds.some) slots
+      serves-in_time_by AreMovedByFirm firm_decision plan (ports_of plan * ports_of plan)
+      (record {
+        scheduling = IsScheduler-firm_decision;
+        moving = IsSchedulerBy-firm_decision;
+        keep = firm_keep (ports_of plan);
+        enough = λ t level i j places part. firm_quiet_served_in_time (ports_of plan) plan.rounds t level i j places part good.rounds.some;
+      }) good slots
 
   -- no wait of the best level is longer
   firm-waits : WaitsUnder firm_decision plan slots (ports_of plan * ports_of plan)
