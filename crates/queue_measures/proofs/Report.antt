@@ -38,20 +38,19 @@ row-div j r few = omega arith
 row-mod : (j r : ℕ) → r < 4 → (4 * j + r) % 4 ≡ r
 row-mod j r few = omega arith
 
-at-output : (ports j r : ℕ) → j < ports → r < 4 → queue_at ports (4 * j + r) ≡ OfOutput j r
-at-output ports j r inside few = rw (row-div j r few, row-mod j r few, lt-ltb j ports inside) refl
+at-output : (ports j x r : ℕ) → x ≡ 4 * j + r → r < 4 → j < ports → queue_at ports x ≡ OfOutput j r
+at-output ports j x r is few inside = ap (queue_at ports) is ∙ rw (row-div j r few, row-mod j r few, lt-ltb j ports inside) refl
 
-at-level : (ports r : ℕ) → r < 4 → queue_at ports (4 * ports + r) ≡ OfLevel r
-at-level ports r few = rw (row-div ports r few, row-mod ports r few, le-ltb ports ports (omega arith)) refl
+at-level : (ports x r : ℕ) → x ≡ 4 * ports + r → r < 4 → queue_at ports x ≡ OfLevel r
+at-level ports x r is few = ap (queue_at ports) is ∙ rw (row-div ports r few, row-mod ports r few, le-ltb ports ports (omega arith)) refl
 
-at-output-of : (ports j r x : ℕ) → x ≡ 4 * j + r → j < ports → r < 4 → queue_at ports x ≡ OfOutput j r
-at-output-of ports j r x is inside few = ap (queue_at ports) is ∙ at-output ports j r inside few
-
-at-level-of : (ports r x : ℕ) → x ≡ 4 * ports + r → r < 4 → queue_at ports x ≡ OfLevel r
-at-level-of ports r x is few = ap (queue_at ports) is ∙ at-level ports r few
-
-four : {X : Type 0} (a b d e a' b' d' e' : X) → a ≡ a' → b ≡ b' → d ≡ d' → e ≡ e' → ◌≡◌ {A = List X} (a ∷ b ∷ d ∷ e ∷ []) (a' ∷ b' ∷ d' ∷ e' ∷ [])
-four a b d e a' b' d' e' p q r s = rw (p, q, r, s) refl
+-- two ranges of one length, where the functions agree
+shifted : {X : Type 0} (f g : ℕ → X) (a b n : ℕ) → ((i j r : ℕ) → r < n → i ≡ a + r → j ≡ b + r → f i ≡ g j)
+    → map f (range_with_len a n) ≡ map g (range_with_len b n)
+shifted f g a b zero same = refl
+shifted f g a b (suc n) same =
+    ap (λ x. x ∷ map f (range_with_len (a + 1) n)) (same a b 0 (omega arith) (omega arith) (omega arith))
+    ∙ ap (λ xs. g b ∷ xs) (shifted f g (a + 1) (b + 1) n (λ i j r inside i_is j_is. same i j (r + 1) (omega arith) (omega arith) (omega arith)))
 
 range-split : {X : Type 0} (f : ℕ → X) (a n m : ℕ) → map f (range_with_len a (n + m)) ≡ map f (range_with_len a n) ++ map f (range_with_len (a + n) m)
 range-split f a zero m =
@@ -79,11 +78,7 @@ outputs-placed ports (suc n) few =
     let from : n ≡ 0 + n = omega arith in
     let x = 0 + 4 * n in
     let block : map (queue_at ports) (range_with_len x 4) ≡ map (OfOutput n) (range_with_len 0 4) =
-    four (queue_at ports x) (queue_at ports (x + 1)) (queue_at ports (x + 1 + 1)) (queue_at ports (x + 1 + 1 + 1)) (OfOutput n 0) (OfOutput n 1)
-    (OfOutput n 2) (OfOutput n 3)
-    (at-output-of ports n 0 x (omega arith) (omega arith) (omega arith)) (at-output-of ports n 1 (x + 1) (omega arith) (omega arith) (omega arith))
-    (at-output-of ports n 2 (x + 1 + 1) (omega arith) (omega arith) (omega arith))
-    (at-output-of ports n 3 (x + 1 + 1 + 1) (omega arith) (omega arith) (omega arith)) in
+    shifted (queue_at ports) (OfOutput n) x 0 4 (λ i j r small i_is j_is. at-output ports n i j (omega arith) (omega arith) (omega arith)) in
     ap (λ k. map (queue_at ports) (range_with_len 0 k)) long ∙ range-split (queue_at ports) 0 (4 * n) 4
     ∙ ap (λ qs. qs ++ map (queue_at ports) (range_with_len x 4)) (outputs-placed ports n (omega arith))
     ∙ ap (λ qs. flat_map (λ j. map (OfOutput j) (range_with_len 0 4)) (range_with_len 0 n) ++ qs) block
@@ -94,10 +89,7 @@ pub queues-placed : (ports : ℕ) → queues_of ports ≡ map (queue_at ports) (
 queues-placed ports =
     let x = 0 + 4 * ports in
     let block : map (queue_at ports) (range_with_len x 4) ≡ map OfLevel (range_with_len 0 4) =
-    four (queue_at ports x) (queue_at ports (x + 1)) (queue_at ports (x + 1 + 1)) (queue_at ports (x + 1 + 1 + 1)) (OfLevel 0) (OfLevel 1) (OfLevel 2)
-    (OfLevel 3)
-    (at-level-of ports 0 x (omega arith) (omega arith)) (at-level-of ports 1 (x + 1) (omega arith) (omega arith))
-    (at-level-of ports 2 (x + 1 + 1) (omega arith) (omega arith)) (at-level-of ports 3 (x + 1 + 1 + 1) (omega arith) (omega arith)) in
+    shifted (queue_at ports) OfLevel x 0 4 (λ i j r small i_is j_is. at-level ports i j (omega arith) (omega arith)) in
     sym (range-split (queue_at ports) 0 (4 * ports) 4
     ∙ ap (λ qs. qs ++ map (queue_at ports) (range_with_len x 4)) (outputs-placed ports ports (omega arith))
     ∙ ap (λ qs. flat_map (λ j. map (OfOutput j) (range_with_len 0 4)) (range_with_len 0 ports) ++ qs) block)

@@ -21,12 +21,13 @@ get_or-map_with_place {X} {Y} f xs i d e within =
     ∙ ap at (get_or-enumerate_from 0 xs i (0, d) within) ∙ ap (λ k. f k (get_or xs i d)) (zero-add i)
 
 -- a line more of those of each place
-pub place_more : {X Y : Type 0} (g : Y → List ℕ) (f : ℕ → X → Y) (xs : List X) (i : ℕ) (d : X) (e : Y) (old now new : List ℕ) → i < length xs
-    → now ≡ old ++ flat_map g (take i (map_with_place f xs)) → new ≡ now ++ g (f i (get_or xs i d))
-    → new ≡ old ++ flat_map g (take (i + 1) (map_with_place f xs))
-place_more g f xs i d e old now new within at more =
-    one_more g (map_with_place f xs) i e old now new (subst (λ n. i < n) (sym (length-map_with_place f xs)) within) at
-    (more ∙ ap (λ y. now ++ g y) (sym (get_or-map_with_place f xs i d e within)))
+pub place_more : {X Y : Type 0} (g : Y → List ℕ) (f : ℕ → X → Y) (xs : List X) (i : ℕ) (d : X) (old now : List ℕ) → i < length xs
+    → now ≡ old ++ flat_map g (take i (map_with_place f xs))
+    → now ++ g (f i (get_or xs i d)) ≡ old ++ flat_map g (take (i + 1) (map_with_place f xs))
+place_more g f xs i d old now within at =
+    let e = f i d in
+    one_more g (map_with_place f xs) i e old now _ (subst (λ n. i < n) (sym (length-map_with_place f xs)) within) at
+    (ap (λ y. now ++ g y) (sym (get_or-map_with_place f xs i d e within)))
 
 -- the lines of all places
 pub places_all : {X Y : Type 0} (g : Y → List ℕ) (f : ℕ → X → Y) (xs : List X) (n : ℕ) (old new : List ℕ) → length xs ≤ n

@@ -8,11 +8,10 @@ use Rattle.slot_report.proofs.slot_lines.put_pairs.Goals as goal
 
 pub loop-output-preserved : goal.loop-output-preserved
 loop-output-preserved c =
-    place_more (λ pair. flat_map after_space (option_to_list pair)) pair_at c.args.matched.now c.loop-output.output None None (string_bytes c.args.text.now)
-    (string_bytes c.loop-output.text) (string_bytes c.put_fed.new.text)
-    (omega (arith, c.ports-output-end.ensures.value)) c.loop-output.invariant
-    (c.in_ok-put_fed.ensures ∙ ap
-    (λ fed. string_bytes c.loop-output.text ++ flat_map after_space (option_to_list (pair_at c.loop-output.output fed))) c.fed.ensures.value)
+    c.in_ok-put_fed.ensures
+    ∙ ap (λ fed. string_bytes c.loop-output.text ++ flat_map after_space (option_to_list (pair_at c.loop-output.output fed))) c.fed.ensures.value
+    ∙ place_more (λ pair. flat_map after_space (option_to_list pair)) pair_at c.args.matched.now c.loop-output.output None (string_bytes c.args.text.now)
+    (string_bytes c.loop-output.text) (omega (arith, c.ports-output-end.ensures.value)) c.loop-output.invariant
 
 pub returns : goal.returns
 returns c =

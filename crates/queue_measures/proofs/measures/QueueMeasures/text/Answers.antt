@@ -21,10 +21,9 @@ loop-i-preserved c =
     c.numbers.ensures.value ∙ ap (λ input. input.numbers)
     (c.input-item.is ∙ get_or_default c.deref-input-items.result.now i c.input-item.result no_input there
     ∙ ap (λ xs. slice_index_or xs i no_input) (d ∙ v)) in
-    place_more (λ text. text) (input_text (length inputs)) inputs i no_input [] [] (string_bytes c.loop-i.text)
-    (string_bytes c.put_input.new.text) inside c.loop-i.invariant
-    (c.in_ok-put_input.ensures ∙ ap (λ n. string_bytes c.loop-i.text ++ numbers_text n i c.numbers.result.now) ports
-    ∙ ap (λ ns. string_bytes c.loop-i.text ++ numbers_text (length inputs) i ns) same)
+    c.in_ok-put_input.ensures ∙ ap (λ n. string_bytes c.loop-i.text ++ numbers_text n i c.numbers.result.now) ports
+    ∙ ap (λ ns. string_bytes c.loop-i.text ++ numbers_text (length inputs) i ns) same
+    ∙ place_more (λ text. text) (input_text (length inputs)) inputs i no_input [] (string_bytes c.loop-i.text) inside c.loop-i.invariant
 
 pub returns : goal.returns
 returns c = λ scheduler plan slots noted early.
