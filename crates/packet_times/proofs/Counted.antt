@@ -17,20 +17,26 @@ use Rattle.packet_times.specs.KeptSteps.{counts_with}
 use Rattle.packet_times.proofs.Places.{kind_few}
 use Rattle.packet_times.proofs.Rowing.{outputs-yes, outputs-no}
 
+-- the second outputs are the first ones and output n, which is none of these
+record AddsOutput (to more : ℕ → Type 0) (n : ℕ) : Type 0 where
+  pub fresh : to n → ⊥
+  pub mine : more n
+  pub earlier : (j : ℕ) → j ≢ n → more j → to j
+  pub kept : (j : ℕ) → to j → more j
+
 module _ (level : ℕ) (kind : Kind) (old : List ℕ) where
   -- no output
   counted-first : (to : ℕ → Type 0) → ((j : ℕ) → to j → ⊥) → IsCounted to level kind old old
   counted-first to none = record { long = refl; here = λ j is. absurd (none j is); others = λ place apart. refl }
 
   -- one output more
-  counted-more : (to more : ℕ → Type 0) (n : ℕ) (now : List ℕ) → own_place n level kind < length old → (to n → ⊥) → more n
-      → ((j : ℕ) → j ≢ n → more j → to j) → ((j : ℕ) → to j → more j) → IsCounted to level kind old now
-      → IsCounted more level kind old (with_one now (own_place n level kind))
-  counted-more to more n now inside fresh mine earlier kept were =
+  counted-more : (to more : ℕ → Type 0) (n : ℕ) (now : List ℕ) → own_place n level kind < length old → AddsOutput to more n
+      → IsCounted to level kind old now → IsCounted more level kind old (with_one now (own_place n level kind))
+  counted-more to more n now inside adds were =
       let own = own_place n level kind in
       let new = one_more (slice_index now own) in
       let before : slice_index now own ≡ slice_index old own =
-      were.others own (λ j is same. fresh (subst to (omega (arith, same)) is)) in
+      were.others own (λ j is same. adds.fresh (subst to (omega (arith, same)) is)) in
       record {
         long = length-set now own new ∙ were.long;
         here = λ j is. elim (cases_eq j n) [
@@ -39,9 +45,9 @@ module _ (level : ℕ) (kind : Kind) (old : List ℕ) where
               ∙ get_or-set_same now own new 0 (let long = were.long in omega arith)
               ∙ ap one_more before
               ∙ ap (λ k. one_more (slice_index old (own_place k level kind))) (sym e)
-          | inr ne ↦ get_or-set_other now own (own_place j level kind) new 0 (λ same. ne (omega (arith, same))) ∙ were.here j (earlier j ne is)
+          | inr ne ↦ get_or-set_other now own (own_place j level kind) new 0 (λ same. ne (omega (arith, same))) ∙ were.here j (adds.earlier j ne is)
         ];
-        others = λ place none. get_or-set_other now own place new 0 (none n mine) ∙ were.others place (λ j is. none j (kept j is));
+        others = λ place none. get_or-set_other now own place new 0 (none n adds.mine) ∙ were.others place (λ j is. none j (adds.kept j is));
       }
 
   -- the same outputs, said in another way
@@ -76,8 +82,13 @@ module _ (p : Planned) (old : List ℕ) (low : p.level < LEVELS) (long : length 
         | inl there ↦
             subst (IsCounted (To (n + 1)) p.level kind old)
             (sym (ap (fold add old) (outputs-yes p.fan n there) ∙ fold-append add old (outputs_in n p.fan) (n ∷ [])))
-            (counted-more p.level kind old (To n) (To (n + 1)) n now (omega (arith, size, low, long)) (λ is. let below = is.1 in absurd (omega arith))
-            (there, omega arith) (λ j ne is. let below = is.1 in (is.0, omega arith)) (λ j is. let below = is.1 in (is.0, omega arith)) were)
+            (counted-more p.level kind old (To n) (To (n + 1)) n now (omega (arith, size, low, long))
+            (record {
+              fresh = λ is. let below = is.1 in absurd (omega arith);
+              mine = (there, omega arith);
+              earlier = λ j ne is. let below = is.1 in (is.0, omega arith);
+              kept = λ j is. let below = is.1 in (is.0, omega arith);
+            }) were)
         | inr none ↦
             subst (IsCounted (To (n + 1)) p.level kind old) (sym (ap (fold add old) (outputs-no p.fan n none)))
             (counted-as p.level kind old (To n) (To (n + 1)) now (λ j is. let below = is.1 in (is.0, omega arith))

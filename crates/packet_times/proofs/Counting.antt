@@ -11,12 +11,11 @@ use Rattle.packet_times.specs.MostSteps.{IsNarrow, most_rows, AreCounted, most_o
 pub none-counted : (packets : List Planned) → AreCounted (take 0 packets) 0
 none-counted packets = record { narrow = λ k d below. absurd (omega (arith, below)); rows = refl }
 
-pub one-counted : (packets : List Planned) (i : ℕ) (d : Planned) (before more after : ℕ) → i < length packets → AreCounted (take i packets) before
-    → IsNarrow (slice_index_or packets i d) → more ≡ most_rows (slice_index_or packets i d) → after ≡ before + more
-    → AreCounted (take (i + 1) packets) after
-one-counted packets i d before more after inside were narrow is sum = record {
+pub one-counted : (packets : List Planned) (i : ℕ) (d : Planned) (before after : ℕ) → i < length packets → AreCounted (take i packets) before
+    → IsNarrow (slice_index_or packets i d) → after ≡ before + most_rows (slice_index_or packets i d) → AreCounted (take (i + 1) packets) after
+one-counted packets i d before after inside were narrow sum = record {
   narrow = All-more IsNarrow packets i d inside were.narrow narrow;
-  rows = omega (arith, were.rows, is, sum, sum_by_more most_rows packets i d inside);
+  rows = omega (arith, were.rows, sum, sum_by_more most_rows packets i d inside);
 }
 
 pub all-counted : (packets : List Planned) (i rows : ℕ) → length packets ≤ i → AreCounted (take i packets) rows → AreCounted packets rows
@@ -25,14 +24,13 @@ all-counted packets i rows all counted = subst (λ ps. AreCounted ps rows) (take
 pub no-input-counted : (inputs : List Input) → AreAllCounted (take 0 inputs) 0
 no-input-counted inputs = record { narrow = λ k d below. absurd (omega (arith, below)); rows = refl }
 
-pub input-counted : (inputs : List Input) (i : ℕ) (input : Input) (before more after : ℕ) → i < length inputs → input ≡ slice_index_or inputs i input
-    → AreAllCounted (take i inputs) before → AreCounted input.counters.packets more → after ≡ before + more
-    → AreAllCounted (take (i + 1) inputs) after
-input-counted inputs i input before more after inside at were here sum =
+pub input-counted : (inputs : List Input) (i : ℕ) (input : Input) (before more : ℕ) → i < length inputs → input ≡ slice_index_or inputs i input
+    → AreAllCounted (take i inputs) before → AreCounted input.counters.packets more → AreAllCounted (take (i + 1) inputs) (before + more)
+input-counted inputs i input before more inside at were here =
     let counted = subst (λ (it : Input). AreCounted it.counters.packets more) at here in
     record {
       narrow = All-more (λ input. All IsNarrow input.counters.packets) inputs i input inside were.narrow counted.narrow;
-      rows = omega (arith, were.rows, counted.rows, sum, sum_by_more most_of_input inputs i input inside);
+      rows = omega (arith, were.rows, counted.rows, sum_by_more most_of_input inputs i input inside);
     }
 
 pub inputs-counted : (inputs : List Input) (i rows : ℕ) → length inputs ≤ i → AreAllCounted (take i inputs) rows → AreAllCounted inputs rows

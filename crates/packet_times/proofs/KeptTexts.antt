@@ -17,7 +17,7 @@ use Rattle.run_laws.specs.Departures.{departure_under}
 use Rattle.packet_times.specs.declared.state.PacketState.{PacketState}
 use Rattle.packet_times.specs.declared.state.PacketState.TheVariants.{Forwarded, Dropped, Unrouted, Oversize}
 use Rattle.packet_times.specs.NotingSteps.{Input, Times, no_input, flow_place, was_admitted, HasNoted}
-use Rattle.packet_times.specs.Rows.{row_text, header, outputs_in, aside_row, state_of, packet_rows, all_rows, packets_text_under}
+use Rattle.packet_times.specs.Rows.{row_text, header, outputs_in, aside_row, routed_row, state_of, packet_rows, all_rows, packets_text_under}
 use Rattle.packet_times.specs.WalkingSteps.{own_place, row_to, HasGone}
 use Rattle.packet_times.specs.KeptSteps.{kept_state, is_flow, kept_departure, kept_row, kept_rows, counts_after, counts_with, rows_from, input_rows}
 use Rattle.packet_times.specs.KeptSteps.{walk_at, rows_left}
@@ -64,7 +64,10 @@ module _ (scheduler : Scheduler) (plan : SwitchPlan) (slots : ℕ) (times : Time
         (departure-is scheduler plan slots times noted i k p inside at j counts below gone)
 
     row-same : (j : ℕ) → j < ports_of plan → kept_row times counts i k p a j ≡ row_to scheduler plan slots i k p j
-    row-same j below = row-is scheduler plan slots i k p j a (kept_state p a) (kept_departure times counts i p a j) is state-same (departure-same j below)
+    row-same j below =
+        ap (λ (s : PacketState). routed_row i k p s j (kept_departure times counts i p a j)) state-same
+        ∙ ap (routed_row i k p (state_of (card_at plan i) (parts_under scheduler plan i slots) p) j) (departure-same j below)
+        ∙ row-is scheduler plan slots i k p j a is
 
     outputs-same : outputs_in MAX_PORTS p.fan ≡ outputs_in (ports_of plan) p.fan
     outputs-same =

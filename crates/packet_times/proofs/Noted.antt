@@ -1,6 +1,7 @@
 -- A slot more is noted.
-use Rattle.std.proofs.Common.{◌≡◌, ◌∙◌, ℕ, zero, suc, ◌+◌, ◌*◌, ◌^◌, ◌<◌, Bool, true, false, List, [], ◌∷◌, ◌++◌, length, map, filter, Option, refl, sym, ap, subst}
-use Rattle.std.proofs.Common.{if◌then◌else◌, arith, inl, inr, slice_set, slice_index_or, replicate, get_or-set_same, get_or-set_other, length-set}
+use Rattle.std.proofs.Common.{◌≡◌, ◌∙◌, ℕ, zero, suc, ◌+◌, ◌*◌, ◌^◌, ◌<◌, Bool, true, false, List, [], ◌∷◌, ◌++◌, length, map, filter, Option}
+use Rattle.std.proofs.Common.{refl, sym, ap, subst, if◌then◌else◌, arith, inl, inr, slice_set, slice_index_or, replicate, get_or-set_same}
+use Rattle.std.proofs.Common.{get_or-set_other, length-set}
 use Rattle.std.specs.Prelude.{All}
 use Rattle.std.specs.List.{range_with_len}
 use Rattle.std.proofs.lemmas.Bool.{cases_eq}
@@ -174,10 +175,12 @@ module _ (plan : SwitchPlan) (cards : List CardPlan) (are : plan.cards ≡ map p
       let here = ap (λ (card : Plan). length card.packets) (card-of i default inside) in
       omega (arith, countable.packets, sum, one, here)
 
-  pub made-more : (k : ℕ) (default : CardPlan) (inputs : List Input) (new : Input) → k < length cards → length inputs ≡ k
-      → ((i : ℕ) → i < k → IsNoted (card_at plan i) (slice_index_or inputs i no_input) [])
-      → IsNoted (plan_of (slice_index_or cards k default)) new [] → (i : ℕ) → i < k + 1
-      → IsNoted (card_at plan i) (slice_index_or (inputs ++ new ∷ []) i no_input) []
+  -- nothing of a run was noted at the first n inputs
+  abbrev AreFresh : ℕ → List Input → Type 0
+  AreFresh n inputs = (i : ℕ) → i < n → IsNoted (card_at plan i) (slice_index_or inputs i no_input) []
+
+  pub made-more : (k : ℕ) (default : CardPlan) (inputs : List Input) (new : Input) → k < length cards → length inputs ≡ k → AreFresh k inputs
+      → IsNoted (plan_of (slice_index_or cards k default)) new [] → AreFresh (k + 1) (inputs ++ new ∷ [])
   made-more k default inputs new inside long were here i less = elim (cases_eq i k) [
     | inl e ↦
         let at : slice_index_or (inputs ++ new ∷ []) i no_input ≡ new = ap (λ j. slice_index_or (inputs ++ new ∷ []) j no_input) (e ∙ sym long)
@@ -189,8 +192,8 @@ module _ (plan : SwitchPlan) (cards : List CardPlan) (are : plan.cards ≡ map p
         subst (λ input. IsNoted (card_at plan i) input []) (sym at) (were i (omega arith))
   ]
 
-  pub made-all : (scheduler : Scheduler) (inputs : List Input) → length inputs ≡ length cards
-      → ((i : ℕ) → i < length cards → IsNoted (card_at plan i) (slice_index_or inputs i no_input) []) → AreNoted scheduler plan 0 0 inputs
+  pub made-all : (scheduler : Scheduler) (inputs : List Input) → length inputs ≡ length cards → AreFresh (length cards) inputs
+      → AreNoted scheduler plan 0 0 inputs
   made-all scheduler inputs long each = record {
     count = long ∙ sym ports-are;
     done = λ i inside none. absurd (omega arith);

@@ -2,7 +2,6 @@
 use Rattle.std.proofs.Common.{◌≡◌, ◌≢◌, ◌∙◌, ℕ, ◌+◌, ◌*◌, ◌<◌, ◌==◌, ◌&&◌, Bool, true, false, List, [], ◌∷◌, ◌++◌, length, Option, Some, None}
 use Rattle.std.proofs.Common.{refl, sym, ap, arith, slice_set, slice_index_or, get_or-set_same, get_or-set_other, length-set, if◌then◌else◌}
 use Rattle.std.proofs.lemmas.Bool.{eqb-true, eq-eqb}
-use Rattle.rotating_pick.specs.declared.limits.TheConstants.{LEVELS}
 use Rattle.std.proofs.lemmas.List.{append-nil}
 use Rattle.std.proofs.lemmas.Nat.{mul-add-lt, same_from_place}
 use Rattle.card_core.proofs.Delivering.{kind_refl}
@@ -113,17 +112,9 @@ all_true : (a b c d : Bool) → a ≡ true → b ≡ true → c ≡ true → d �
 all_true a b c d p q r s = cc
 
 -- a last cell ends a message of its flow
-pub ends-own : (ports output place input : ℕ) (cell : Option Cell) (c : Cell) → cell ≡ Some c → c.last ≡ true → input ≡ c.input → input < ports
-    → output < ports → c.level < LEVELS
-    → place ≡ flow_place ports (record { input = input; output = output; level = c.level; kind = c.kind }) → EndsAt ports output cell place
-ends-own ports output place input cell c is last same low few level at =
-    let flow : Flow = record { input = input; output = output; level = c.level; kind = c.kind } in
-    record {
-      flow = flow;
-      is_flow = record { input = low; output = few; level = level };
-      goes = refl;
-      ends = ap (is_end_of flow) is
-          ∙ all_true c.last (c.input == input) (c.level == c.level) (is_kind c.kind c.kind) last (eq-eqb c.input input (sym same))
-          (eq-eqb c.level c.level refl) (kind_refl c.kind);
-      is = at;
-    }
+pub ends-own : (input output : ℕ) (cell : Option Cell) (c : Cell) → cell ≡ Some c → c.last ≡ true → input ≡ c.input
+    → is_end_of (record { input = input; output = output; level = c.level; kind = c.kind }) cell ≡ true
+ends-own input output cell c is last same =
+    ap (is_end_of (record { input = input; output = output; level = c.level; kind = c.kind })) is
+    ∙ all_true c.last (c.input == input) (c.level == c.level) (is_kind c.kind c.kind) last (eq-eqb c.input input (sym same))
+    (eq-eqb c.level c.level refl) (kind_refl c.kind)

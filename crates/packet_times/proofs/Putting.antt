@@ -1,20 +1,9 @@
--- Bytes that are put into a slice, one piece before the other, and a file that is given piece by piece.
-use Rattle.std.proofs.Common.{◌≡◌, ◌↔◌, ◌∙◌, ℕ, ◌+◌, ◌≤◌, List, [], ◌++◌, length, take, drop, sym, ap, arith}
-use Rattle.std.proofs.Common.{true, if◌then◌else◌, append_assoc, length-append, length-take}
+-- A file that is given piece by piece.
+use Rattle.std.proofs.Common.{◌≡◌, ◌↔◌, ◌∙◌, ℕ, ◌≤◌, List, [], ◌++◌, length, take, sym, ap, arith, true, if◌then◌else◌, length-append, length-take}
 use Rattle.std.specs.List.{flat_map}
 use Rattle.packet_times.specs.Rows.{row_text, header}
 use Rattle.packet_times.specs.KeptSteps.{Pieces, left, rows_left}
-use Rattle.packet_times.specs.PuttingSteps.{IsPutBefore}
 
--- bytes before those that were put
-pub before-then : (old mid new a b : List ℕ) (end m at : ℕ) → IsPutBefore old end a mid m → IsPutBefore mid m b new at
-    → IsPutBefore old end (b ++ a) new at
-before-then old mid new a b end m at first next = record {
-  place = omega (arith, first.place, next.place, length-append b a);
-  text = next.text ∙ ap (λ s. b ++ s) first.text ∙ sym (append_assoc b a (drop end old));
-}
-
--- ---- a file that is given piece by piece
 -- where the header was given, the rows are left
 pub left-rows : (pieces : Pieces) → pieces.began ≡ true → left pieces ≡ flat_map row_text (rows_left pieces.times pieces.walk)
 left-rows pieces began = ap (λ b. (if b then [] else header) ++ flat_map row_text (rows_left pieces.times pieces.walk)) began

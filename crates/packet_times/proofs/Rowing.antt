@@ -16,7 +16,6 @@ use Rattle.card_core.specs.Queues.{is_routed}
 use Rattle.switch_plan.specs.GoodPlans.{SwitchPlan}
 use Rattle.run_laws.specs.Runs.{card_at, parts_under}
 use Rattle.run_laws.specs.Departures.{departure_under}
-use Rattle.packet_times.specs.declared.state.PacketState.{PacketState}
 use Rattle.packet_times.specs.declared.state.PacketState.TheVariants.{Forwarded, Dropped, Unrouted, Oversize}
 use Rattle.packet_times.specs.NotingSteps.{was_admitted}
 use Rattle.packet_times.specs.Rows.{routed_row, state_of, departure_if, outputs_in}
@@ -118,14 +117,12 @@ map-outputs f g fan (suc n) same =
       one true is = ap (λ x. x ∷ []) is
       one false is = refl
 
--- a row of what is known of the packet
-pub row-is : (scheduler : Scheduler) (plan : SwitchPlan) (slots i k : ℕ) (p : Planned) (n : ℕ) (admitted : Bool) (state : PacketState) (departure : Option ℕ)
+-- the row of a packet that was admitted or not, with the departure that is known of it
+pub row-is : (scheduler : Scheduler) (plan : SwitchPlan) (slots i k : ℕ) (p : Planned) (n : ℕ) (admitted : Bool)
     → admitted ≡ was_admitted (card_at plan i) (parts_under scheduler plan i slots) p
-    → state ≡ state_of (card_at plan i) (parts_under scheduler plan i slots) p
-    → departure ≡ (if admitted then departure_under scheduler plan slots i n k p else None)
-    → routed_row i k p state n departure ≡ row_to scheduler plan slots i k p n
-row-is scheduler plan slots i k p n admitted state departure known is left =
-    ap (λ (s : PacketState). routed_row i k p s n departure) is
-    ∙ ap (routed_row i k p (state_of (card_at plan i) (parts_under scheduler plan i slots) p) n)
-    (left ∙ ap (λ (b : Bool). if b then departure_under scheduler plan slots i n k p else None) known
+    → routed_row i k p (state_of (card_at plan i) (parts_under scheduler plan i slots) p) n
+    (if admitted then departure_under scheduler plan slots i n k p else None) ≡ row_to scheduler plan slots i k p n
+row-is scheduler plan slots i k p n admitted known =
+    ap (routed_row i k p (state_of (card_at plan i) (parts_under scheduler plan i slots) p) n)
+    (ap (λ (b : Bool). if b then departure_under scheduler plan slots i n k p else None) known
     ∙ departed (is_routed p) _ _ (departure_under scheduler plan slots i n k p))

@@ -1,10 +1,9 @@
-use Rattle.std.proofs.Common.{◌∙◌, ◌++◌, ℕ, List, ap, arith, decimal, drop}
+use Rattle.std.proofs.Common.{◌∙◌, ◌++◌, ℕ, List, ap, arith, decimal}
 use Rattle.std.specs.Prelude.{codes}
 use Rattle.std.proofs.lemmas.Fmt.{length-decimal-le}
 use Rattle.std.proofs.lemmas.List.{append-nil, drop_all}
 use Rattle.packet_times.specs.FieldSteps.{outcome_texts, leaving_texts}
 use Rattle.packet_times.specs.PuttingSteps.{with_commas}
-use Rattle.packet_times.proofs.Putting.{before-then}
 use Rattle.packet_times.proofs.Texts.{row-parts}
 use Rattle.packet_times.proofs.fields.put_line.Goals as goal
 
@@ -22,9 +21,8 @@ returns-clause-text c =
     let row = c.args.row.now in
     let first = outcome_texts row.outcome in
     let rest = leaving_texts row.outcome.packet row.leaving in
-    let text = with_commas first ++ (with_commas rest ++ codes "\n") in
-    let tail = before-then _ _ _ _ (with_commas rest) _ _ _ c.put_before-end.ensures c.put_leaving-level.ensures.put in
-    let all = before-then _ _ _ _ (with_commas first) _ _ _ tail c.put_outcome-number.ensures.put in
-    c.write_digits.ensures.written
-    ∙ ap (λ (s : List ℕ). decimal row.outcome.input ++ s) (all.text ∙ ap (λ (s : List ℕ). text ++ s) (drop_all 256 old (omega arith)) ∙ append-nil text)
+    let end = c.put_before-end.ensures.text ∙ ap (λ (s : List ℕ). codes "\n" ++ s) (drop_all 256 old (omega arith)) ∙ append-nil (codes "\n") in
+    let tail = c.put_leaving-level.ensures.put.text ∙ ap (λ (s : List ℕ). with_commas rest ++ s) end in
+    let all = c.put_outcome-number.ensures.put.text ∙ ap (λ (s : List ℕ). with_commas first ++ s) tail in
+    c.write_digits.ensures.written ∙ ap (λ (s : List ℕ). decimal row.outcome.input ++ s) all
     ∙ row-parts (decimal row.outcome.input) first rest
