@@ -52,14 +52,14 @@ module _ (nano : Bool) (body lens : List ℕ) (ms : List (List ℕ)) (whole : bo
       ∙ (ap (λ xs. take (length (get_or ms k [])) (drop (sum (take k (map length ms))) xs)) whole ∙ part_at ms k within))
 
   -- what a message that becomes its record makes of the part that has become records
-  pub records_more : (old new m : List ℕ) (k start to : ℕ) → k < length lens → start ≡ sum (take k lens) → m ≡ take (get_or lens k 0) (drop start body)
-      → IsTurned old new (record_text nano m) start to → take start old ≡ flat_map (record_text nano) (take k ms)
+  pub records_more : (old new : List ℕ) (k start to : ℕ) → k < length lens → start ≡ sum (take k lens)
+      → IsTurned old new (record_text nano (take (get_or lens k 0) (drop start body))) start to → take start old ≡ flat_map (record_text nano) (take k ms)
       → take to new ≡ flat_map (record_text nano) (take (k + 1) ms)
-  records_more old new m k start to inside begins part turned so_far =
-      let text = record_text nano m in
+  records_more old new k start to inside begins turned so_far =
+      let text = record_text nano (take (get_or lens k 0) (drop start body)) in
       let records = λ (xs : List (List ℕ)). flat_map (record_text nano) xs in
       let more : records (take k ms) ++ text ≡ records (take (k + 1) ms) =
-      ap (λ x. records (take k ms) ++ record_text nano x) (part ∙ message_at k start inside begins)
+      ap (λ x. records (take k ms) ++ record_text nano x) (message_at k start inside begins)
       ∙ (ap (λ xs. records (take k ms) ++ xs) (sym (append-nil (record_text nano (get_or ms k []))))
       ∙ (sym (flat_map-append (record_text nano) (take k ms) (get_or ms k [] ∷ [])) ∙ ap records (sym (take_more ms k [] (omega (arith, long)))))) in
       (parts_of old new text start to turned).0 ∙ (ap (λ xs. xs ++ text) so_far ∙ more)

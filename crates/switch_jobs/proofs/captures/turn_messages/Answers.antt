@@ -1,4 +1,4 @@
-use Rattle.std.proofs.Common.{◌≡◌, ◌∙◌, ◌+◌, ◌-◌, ◌<◌, ◌≤◌, ◌++◌, length, take, drop, get_or, sum, ap, sym, arith}
+use Rattle.std.proofs.Common.{◌≡◌, ◌∙◌, ◌+◌, ◌-◌, ◌<◌, ◌≤◌, ◌++◌, length, take, drop, get_or, sum, ap, subst, sym, arith}
 use Rattle.std.proofs.lemmas.List.{length-take-le, length-drop, drop-drop}
 use Rattle.std.proofs.lemmas.List.Sums.{sum_by_more, sum_by_more_le}
 use Rattle.pcap_records.specs.Output.{record_text}
@@ -42,6 +42,6 @@ loop-len-preserved c =
       start = omega arith;
       rest = (parts_of old new text at.start to turned).1 ∙ later;
       text = λ messages are lengths.
-          records_more c.args.nano body lens messages are lengths old new message k at.start to inside start part turned
-          (at.invariant.text messages are lengths);
+          records_more c.args.nano body lens messages are lengths old new k at.start to inside start
+          (subst (λ m. IsTurned old new (record_text c.args.nano m) at.start to) part turned) (at.invariant.text messages are lengths);
     }
