@@ -1,6 +1,7 @@
 -- The cards that are made of all ports and of what these bring.
 use Rattle.std.proofs.Common.{◌≡◌, ◌∙◌, ◌↔◌, ℕ, ◌+◌, ◌<◌, ◌≤◌, List, [], ◌∷◌, ◌++◌, length, Some, ap, sym, subst, arith, inl, inr}
 use Rattle.std.specs.Prelude.{slice_get, sum_by}
+use Rattle.std.proofs.lemmas.List.{length_push}
 use Rattle.std.proofs.lemmas.Option.{slice_get_within}
 use Rattle.std.proofs.lemmas.Slice.Zip.{AllZip-long}
 use Rattle.std_lemmas.proofs.Lists.{get-snoc}
@@ -16,20 +17,29 @@ use Rattle.switch_plan.specs.JobSteps.{packets_of_ports, IsCardWith, IsCardOfPor
 use Rattle.switch_plan.proofs.OverLimits.{map_both}
 use Rattle.switch_plan.proofs.PortSums.{ports_long, work_is, sizes_are, bytes_are, messages_are}
 
--- what holds of the items of two lists, number by number, with one item more of each
-pub both_push : {A B : Type 0} (R : ℕ → A → B → Type 0) (xs : List A) (ys : List B) (x : A) (y : B) → length ys ≡ length xs
-    → ((k : ℕ) (a : A) (b : B) → slice_get xs k ≡ Some a → slice_get ys k ≡ Some b → R k a b) → R (length xs) x y
-    → (k : ℕ) (a : A) (b : B) → slice_get (xs ++ x ∷ []) k ≡ Some a → slice_get (ys ++ y ∷ []) k ≡ Some b → R k a b
-both_push R xs ys x y same before here k a b at_a at_b = elim (get-snoc xs x a k at_a) [
-  | inl first ↦ elim (get-snoc ys y b k at_b) [
-    | inl second ↦ before k a b first second
-    | inr last ↦ absurd (let inside = slice_get_within xs k a first in let is = last.0 in omega arith)
-  ]
-  | inr end ↦ elim (get-snoc ys y b k at_b) [
-    | inl second ↦ absurd (let inside = slice_get_within ys k b second in let is = end.0 in omega arith)
-    | inr last ↦ subst (λ j. R j a b) (sym end.0) (subst (R (length xs) a) last.1 (subst (λ c. R (length xs) c y) end.1 here))
-  ]
-]
+-- the second list has an item for each of the first, and this holds of the two, number by number
+pub record AreBoth {A B : Type 0} (R : ℕ → A → B → Type 0) (xs : List A) (ys : List B) : Type 0 where
+  pub count : length ys ≡ length xs
+  pub each : (k : ℕ) (a : A) (b : B) → slice_get xs k ≡ Some a → slice_get ys k ≡ Some b → R k a b
+
+-- with one item more of each
+pub both_push : {A B : Type 0} (R : ℕ → A → B → Type 0) (xs : List A) (ys : List B) (x : A) (y : B) → AreBoth R xs ys → R (length xs) x y
+    → AreBoth R (xs ++ x ∷ []) (ys ++ y ∷ [])
+both_push R xs ys x y before here =
+    let same = before.count in
+    record {
+      count = omega (arith, length_push ys y, length_push xs x);
+      each = λ k a b at_a at_b. elim (get-snoc xs x a k at_a) [
+        | inl first ↦ elim (get-snoc ys y b k at_b) [
+          | inl second ↦ before.each k a b first second
+          | inr last ↦ absurd (let inside = slice_get_within xs k a first in let is = last.0 in omega arith)
+        ]
+        | inr end ↦ elim (get-snoc ys y b k at_b) [
+          | inl second ↦ absurd (let inside = slice_get_within ys k b second in let is = end.0 in omega arith)
+          | inr last ↦ subst (λ j. R j a b) (sym end.0) (subst (R (length xs) a) last.1 (subst (λ c. R (length xs) c y) end.1 here))
+        ]
+      ];
+    }
 
 module _ (ports : List (List Planned)) (brought : List Brought) (are : AreBroughtBy ports brought) where
   -- there are as many ports as packets of ports
@@ -79,12 +89,12 @@ card_made ports brought depth k port card are below is =
     }
 
 -- the run of cards ends with that of the ports that they are made of
-pub end_is : (ports : List PortPlan) (brought : List Brought) (depth : ℕ) (cards these : List CardPlan) (slots cells : ℕ)
-    → AreBroughtBy (packets_of_ports ports) brought → cells ≡ sum_by (λ (port : Brought). port.work) brought
-    → AreCardsOf ports depth cards → these ≡ cards → slots ≡ greatest_slots (packets_of_cards these) → slots + cells + 1 ≡ max_slots_of (packets_of_ports ports)
-end_is ports brought depth cards these slots cells bring work are same is =
+pub end_is : (ports : List PortPlan) (brought : List Brought) (depth : ℕ) (cards these : List CardPlan) → AreBroughtBy (packets_of_ports ports) brought
+    → AreCardsOf ports depth cards → these ≡ cards
+    → greatest_slots (packets_of_cards these) + sum_by (λ (port : Brought). port.work) brought + 1 ≡ max_slots_of (packets_of_ports ports)
+end_is ports brought depth cards these bring are same =
     let packets : packets_of_cards cards ≡ packets_of_ports ports =
     map_both (λ (card : CardPlan). card.packets.items) (λ (port : PortPlan). port.packets.items) cards ports (sym are.count)
     (λ k card port at_card at_port. (are.each k port card at_port at_card).packets) in
-    let slots_are = is ∙ ap (λ (them : List CardPlan). greatest_slots (packets_of_cards them)) same ∙ ap greatest_slots packets in
-    omega (arith, slots_are, work, work_is (packets_of_ports ports) brought bring)
+    let slots = ap (λ (them : List CardPlan). greatest_slots (packets_of_cards them)) same ∙ ap greatest_slots packets in
+    omega (arith, slots, work_is (packets_of_ports ports) brought bring)

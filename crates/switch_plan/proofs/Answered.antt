@@ -19,24 +19,21 @@ abbrev pub read_as : Capture → Result Capture PcapFault
 read_as capture = Ok capture
 
 -- the answer of a file within the first that were read is its capture
-capture_at : (files : List (List ℕ)) (answers rest : List (Result Capture PcapFault)) (captures : List Capture) → AreReadAs files answers
-    → map read_as captures ++ rest ≡ answers
-    → (k : ℕ) (bytes : List ℕ) (d : Capture) → k < length captures → k < length files → IsCaptureOf (slice_index_or files k bytes) (slice_index_or captures k d)
-capture_at files answers rest captures read whole k bytes d inside within =
+capture_at : (files : List (List ℕ)) (captures : List Capture) (rest : List (Result Capture PcapFault)) → AreReadAs files (map read_as captures ++ rest)
+    → (k : ℕ) (bytes : List ℕ) (d : Capture) → k < length captures → IsCaptureOf (slice_index_or files k bytes) (slice_index_or captures k d)
+capture_at files captures rest read k bytes d inside =
     let inside' : k < length (map read_as captures) = omega (arith, length-map captures read_as) in
+    let within : k < length files = omega (arith, read.count, length-append (map read_as captures) rest, inside') in
     subst (IsReadAs (slice_index_or files k bytes))
-    (ap (λ xs. slice_index_or xs k (read_as d)) (sym whole) ∙ get_or_append_left (map read_as captures) rest (read_as d) k inside'
-    ∙ get_or-map_same read_as captures k d)
+    (get_or_append_left (map read_as captures) rest (read_as d) k inside' ∙ get_or-map_same read_as captures k d)
     (read.each k bytes (read_as d) within)
 
 pub all_read : (files : List (List ℕ)) (answers : List (Result Capture PcapFault)) (captures : List Capture) → AreReadAs files answers
     → map read_as captures ++ [] ≡ answers → AreCapturesOf files captures
 all_read files answers captures read whole =
-    let long : length answers ≡ length captures = sym (ap length whole) ∙ omega (arith, length-append (map read_as captures) [], length-map captures read_as) in
-    record {
-      count = sym long ∙ read.count;
-      each = λ k bytes capture within. capture_at files answers [] captures read whole k bytes capture (let n = read.count in omega arith) within;
-    }
+    let read' = subst (AreReadAs files) (sym whole) read in
+    let count : length captures ≡ length files = omega (arith, read'.count, length-append (map read_as captures) [], length-map captures read_as) in
+    record { count = count; each = λ k bytes capture within. capture_at files captures [] read' k bytes capture (omega arith) }
 
 -- a capture among those that were read
 some_file : (bytes : List ℕ) (captures : List Capture) (k : ℕ) → k < length captures → ((d : Capture) → IsCaptureOf bytes (slice_index_or captures k d))
@@ -49,23 +46,21 @@ pub first_fault : (files : List (List ℕ)) (answers rest : List (Result Capture
     → AreReadAs files answers → map read_as captures ++ Err fault ∷ rest ≡ answers
     → (fault ≡ OutOfMemory) ⊎ IsFirstFault files (length captures) fault
 first_fault files answers rest captures fault read whole =
-    let long : length answers ≡ length captures + (1 + length rest) =
-    sym (ap length whole) ∙ omega (arith, length-append (map read_as captures) (Err fault ∷ rest), length-map captures read_as) in
-    let within : length captures < length files = let n = read.count in omega arith in
+    let read' = subst (AreReadAs files) (sym whole) read in
+    let within : length captures < length files =
+    omega (arith, read'.count, length-append (map read_as captures) (Err fault ∷ rest), length-map captures read_as) in
     let here = λ (bytes : List ℕ).
     subst (IsReadAs (slice_index_or files (length captures) bytes))
-    (ap (λ xs. slice_index_or xs (length captures) (Err fault)) (sym whole)
-    ∙ ap (λ k. slice_index_or (map read_as captures ++ Err fault ∷ rest) k (Err fault)) (sym (length-map captures read_as))
+    (ap (λ k. slice_index_or (map read_as captures ++ Err fault ∷ rest) k (Err fault)) (sym (length-map captures read_as))
     ∙ get_or-append_seam (map read_as captures) (Err fault) rest (Err fault))
-    (read.each (length captures) bytes (Err fault) within) in
+    (read'.each (length captures) bytes (Err fault) within) in
     elim (here []) [
       | inl memory ↦ inl memory
       | inr found ↦
           inr (record {
             within = within;
             before = λ k bytes less.
-                some_file (slice_index_or files k bytes) captures k less
-                (λ d. capture_at files answers (Err fault ∷ rest) captures read whole k bytes d less (omega arith));
+                some_file (slice_index_or files k bytes) captures k less (λ d. capture_at files captures (Err fault ∷ rest) read' k bytes d less);
             faulty = λ bytes. subst (λ file. IsFault file fault) (get_or_default files (length captures) [] bytes within) found;
           })
     ]

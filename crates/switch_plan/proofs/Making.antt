@@ -11,14 +11,11 @@ unfolding made_frame frame_begin
 frame_length ports h = omega (arith, length-replicate {A = ℕ} (made_length h - 34) 0)
 
 -- a record's header and its frame are the record
-pub record_made : (job : GenJob) (port k number : ℕ) (old mid new : List ℕ) → number ≡ made_number job.seed port k
-    → mid ≡ old ++ record_header Little k port (made_length number) (made_length number) → new ≡ mid ++ made_frame job.ports number
-    → new ≡ old ++ record_bytes Little (made_record job port k)
-record_made job port k number old mid new same header frame =
-    new_is ∙ ap (λ h. old ++ (record_header Little k port (length (made_frame job.ports h)) (made_length h) ++ made_frame job.ports h)) same
-  where
-    new_is : new ≡ old ++ (record_header Little k port (length (made_frame job.ports number)) (made_length number) ++ made_frame job.ports number)
-    new_is =
-        frame ∙ ap (λ x. x ++ made_frame job.ports number) header
-        ∙ append_assoc old (record_header Little k port (made_length number) (made_length number)) (made_frame job.ports number)
-        ∙ ap (λ n. old ++ (record_header Little k port n (made_length number) ++ made_frame job.ports number)) (sym (frame_length job.ports number))
+pub record_made : (job : GenJob) (port k number : ℕ) (old mid : List ℕ) → number ≡ made_number job.seed port k
+    → mid ≡ old ++ record_header Little k port (made_length number) (made_length number)
+    → mid ++ made_frame job.ports number ≡ old ++ record_bytes Little (made_record job port k)
+record_made job port k number old mid same header =
+    let frame = made_frame job.ports number in
+    ap (λ x. x ++ frame) header ∙ append_assoc old (record_header Little k port (made_length number) (made_length number)) frame
+    ∙ ap (λ n. old ++ (record_header Little k port n (made_length number) ++ frame)) (sym (frame_length job.ports number))
+    ∙ ap (λ h. old ++ (record_header Little k port (length (made_frame job.ports h)) (made_length h) ++ made_frame job.ports h)) same

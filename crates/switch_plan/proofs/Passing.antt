@@ -91,10 +91,11 @@ module _ (table : List RouteLine) (pace : Pace) (capture : Capture) where
       ∙ ap (λ p. planned table capture.link p (slice_index_or (slots_at pace capture) k 0)) (get_or-map_same (packet_in capture.bytes.items) own k no_stored)
       ∙ ap (planned table capture.link (packet_in capture.bytes.items (slice_index_or own k no_stored))) here)
 
-  pub so_far_next : (k free slot : ℕ) (stamp : Stamp) (packet : Planned) (before after : List Planned) → k < length capture.packets.items
-      → SoFar table pace capture k free before → IsStep table pace capture k free stamp slot packet → after ≡ before ++ packet ∷ []
-      → SoFar table pace capture (k + 1) (slot + 1) after
-  so_far_next k free slot stamp packet before after inside far step push =
+  pub so_far_next : (k free slot : ℕ) (stamp : Stamp) (packet : Planned) (before : List Planned) → k < length capture.packets.items
+      → SoFar table pace capture k free before → IsStep table pace capture k free stamp slot packet
+      → SoFar table pace capture (k + 1) (slot + 1) (before ++ packet ∷ [])
+  so_far_next k free slot stamp packet before inside far step =
+      let after = before ++ packet ∷ [] in
       let stamps = map stamp_of (packets_of capture) in
       let d = stamp_of (packet_in capture.bytes.items no_stored) in
       let stamp_at : slice_index_or stamps k d ≡ stamp =
@@ -115,12 +116,12 @@ module _ (table : List RouteLine) (pace : Pace) (capture : Capture) where
         low = omega (arith, far.low, step.bound);
         made = λ within.
             made_next unplaced before after (traffic_at table pace capture) packet k
-            (planned table capture.link (packet_in capture.bytes.items no_stored) 0) push
+            (planned table capture.link (packet_in capture.bytes.items no_stored) 0) refl
             (step.packet_is (omega arith) ∙ traffic_here k slot inside (slot_more pace 0 stamps k d in_stamps ∙ here)) (omega (arith, traffic_long))
             (far.made (omega arith));
-        places = made_next (λ (p : Planned). p.start) before after (map (λ (s : Stored). s.start) own) packet k 0 push
+        places = made_next (λ (p : Planned). p.start) before after (map (λ (s : Stored). s.start) own) packet k 0 refl
             (step.start ∙ sym (get_or-map_same (λ (s : Stored). s.start) own k no_stored)) (omega (arith, starts_long)) far.places;
-        forwarded = subst (All IsForwardable) (sym push) (All-push IsForwardable before packet far.forwarded step.forwarded);
+        forwarded = All-push IsForwardable before packet far.forwarded step.forwarded;
       }
 
   -- ---- at its end

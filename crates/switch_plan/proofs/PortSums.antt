@@ -1,8 +1,8 @@
 -- What planned ports bring, summed over all of them, is what their packets bring.
-use Rattle.std.proofs.Common.{◌≡◌, ◌∙◌, ℕ, ◌*◌, ◌<◌, ◌≤◌, ◌==◌, Bool, List, [], ◌∷◌, ◌++◌, ◌+◌, length, take, slice_index_or, refl}
+use Rattle.std.proofs.Common.{◌≡◌, ◌∙◌, ℕ, ◌*◌, ◌<◌, ◌≤◌, ◌==◌, Bool, List, [], ◌∷◌, ◌++◌, ◌+◌, length, take, refl}
 use Rattle.std.proofs.Common.{slice_set, ap, sym, subst, arith}
 use Rattle.std.specs.Prelude.{map, flat_map, sum_by, count_by, All}
-use Rattle.std.proofs.lemmas.List.{length-map, take_more, take_more_set}
+use Rattle.std.proofs.lemmas.List.{length-map, take_more_set}
 use Rattle.std.proofs.lemmas.List.Elements.{All-head, All-tail}
 use Rattle.std.proofs.lemmas.List.Folds.{fold-map}
 use Rattle.std.proofs.lemmas.List.Sums.{sum_by-cons, sum_by-le-sum_by, count_by-le-length}
@@ -140,11 +140,8 @@ brought_push [] (b ∷ brought) packets port are more = absurd are
 brought_push (p ∷ ports) [] packets port are more = absurd are
 brought_push (p ∷ ports) (b ∷ brought) packets port are more = (are.0, brought_push ports brought packets port are.1 more)
 
-pub brought_more : (ports : List (List Planned)) (brought : List Brought) (k : ℕ) (packets : List Planned) (port : Brought) → k < length ports
-    → k < length brought → slice_index_or ports k packets ≡ packets → AreBroughtBy (take k ports) (take k brought) → AreCountable packets
-    → IsBroughtBy packets port → AreBroughtBy (take (k + 1) ports) (take (k + 1) (slice_set brought k port))
-brought_more ports brought k packets port inside room here before countable is =
-    subst (λ those. AreBroughtBy those (take (k + 1) (slice_set brought k port)))
-    (sym (take_more ports k packets inside ∙ ap (λ own. take k ports ++ own ∷ []) here))
-    (subst (AreBroughtBy (take k ports ++ packets ∷ [])) (sym (take_more_set brought k port room))
-    (brought_push (take k ports) (take k brought) packets port before (countable, is)))
+pub brought_more : (ports : List (List Planned)) (brought : List Brought) (k : ℕ) (packets : List Planned) (port : Brought)
+    → take (k + 1) ports ≡ take k ports ++ packets ∷ [] → k < length brought → AreBroughtBy (take k ports) (take k brought)
+    → AreCountable packets × IsBroughtBy packets port → AreBroughtBy (take (k + 1) ports) (take (k + 1) (slice_set brought k port))
+brought_more ports brought k packets port next room before more =
+    rw (next, take_more_set brought k port room) (brought_push (take k ports) (take k brought) packets port before more)

@@ -1,5 +1,5 @@
 -- A job is refused for one cause at most, and not if it can be planned.
-use Rattle.std.proofs.Common.{◌≡◌, ◌∙◌, ◌⊎◌, ℕ, zero, suc, ◌<◌, List, [], ◌∷◌, length, slice_index_or, Option, None, Some, Ok, Err, refl, ap, sym}
+use Rattle.std.proofs.Common.{◌≡◌, ◌∙◌, ◌⊎◌, ℕ, zero, suc, ◌<◌, List, [], ◌∷◌, length, slice_index_or, None, Ok, Err, refl, ap, sym}
 use Rattle.std.proofs.Common.{subst, arith, inl, inr}
 use Rattle.std.proofs.lemmas.List.{same_lists}
 use Rattle.std.proofs.lemmas.Option.{none-some, same_Some}
@@ -83,13 +83,12 @@ module _ (terms : Terms) (text : List ℕ) (files : List (List ℕ)) where
   cause_of OutOfMemory is = absurd is
 
   -- a table and captures that are read are refused for one cause, or for none
-  outcome_once : (table other_table : List RouteLine) (captures other_captures : List CaptureFile) (a b : Option PlanFault)
-      → AreRead text files table captures → AreRead text files other_table other_captures
-      → refusal_of terms table captures ≡ a → refusal_of terms other_table other_captures ≡ b → a ≡ b
-  outcome_once table other_table captures other_captures a b read other is_a is_b =
+  outcome_once : (table other_table : List RouteLine) (captures other_captures : List CaptureFile) → AreRead text files table captures
+      → AreRead text files other_table other_captures → refusal_of terms table captures ≡ refusal_of terms other_table other_captures
+  outcome_once table other_table captures other_captures read other =
       let tables : table ≡ other_table = let p = read.table_is in let q = other.table_is in cc in
       let files_same = files_once files captures other_captures read.captures_are other.captures_are in
-      sym is_a ∙ ap (λ t. refusal_of terms t captures) tables ∙ ap (refusal_of terms other_table) files_same ∙ is_b
+      ap (λ t. refusal_of terms t captures) tables ∙ ap (refusal_of terms other_table) files_same
 
   not_both : (why : TableFault) (table : List RouteLine) → reading_of (length files) text ≡ Err why → reading_of (length files) text ≡ Ok table → ⊥
   not_both why table bad good = cc
@@ -110,7 +109,7 @@ module _ (terms : Terms) (text : List ℕ) (files : List (List ℕ)) where
   same_cause a b (of_both (table', captures, read, refused)) (of_capture port why table is good first) =
       absurd (no_fault_of_files files captures port why (no_file files captures port first.within read.captures_are.count) read.captures_are first)
   same_cause a b (of_both (table, captures, read, refused)) (of_both (table', captures', read', refused')) =
-      same_Some a b (outcome_once table table' captures captures' (Some a) (Some b) read read' refused refused')
+      same_Some a b (sym refused ∙ outcome_once table table' captures captures' read read' ∙ refused')
 
   -- so a refusal is the refusal
   pub refusal_once : (a b : PlanFault) → IsRefusal terms text files a → IsRefusal terms text files b → a ≡ b
@@ -127,4 +126,4 @@ module _ (terms : Terms) (text : List ℕ) (files : List (List ℕ)) where
       unrefused table captures fault read none (of_capture port why table' is good first) =
           no_fault_of_files files captures port why (no_file files captures port first.within read.captures_are.count) read.captures_are first
       unrefused table captures fault read none (of_both (table', captures', read', refused)) =
-          none-some fault (outcome_once table table' captures captures' None (Some fault) read read' none refused)
+          none-some fault (sym none ∙ outcome_once table table' captures captures' read read' ∙ refused)

@@ -1,5 +1,5 @@
 -- The totals of a plan by the greatest number of arrival slots, and facts of all cards as far as a loop has come.
-use Rattle.std.proofs.Common.{◌≡◌, ◌∙◌, ℕ, ◌+◌, ◌<◌, ◌≤◌, max, List, [], ◌∷◌, length, take, slice_index_or, Some, sym, ap, subst, arith, inl, inr}
+use Rattle.std.proofs.Common.{◌≡◌, ◌∙◌, ◌↔◌, ℕ, ◌+◌, ◌<◌, ◌≤◌, max, List, [], ◌∷◌, length, take, slice_index_or, Some, sym, subst, arith, inl, inr}
 use Rattle.std.specs.Prelude.{fold, slice_get, All}
 use Rattle.std.proofs.lemmas.Bool.{cases_eq}
 use Rattle.std.proofs.lemmas.Option.{get_or_from_slice_get}
@@ -28,20 +28,15 @@ greatest_few most a (packets ∷ ports) few all =
     let first = All-head (λ packets. slots_of packets ≤ most) packets ports all in
     greatest_few most (max a (slots_of packets)) ports (omega arith) (All-tail (λ packets. slots_of packets ≤ most) packets ports all)
 
-pub totals_from : (ports max_slots slots cells : ℕ) (packets : List (List Planned)) → slots ≡ greatest_slots packets → cells ≡ total_work packets
-    → slots ≤ most_for ports → cells ≤ most_for ports → max_slots ≡ slots + cells + 1 → AreTotals ports max_slots packets
-totals_from ports max_slots slots cells packets slots_is cells_is slots_few cells_few end_is = record {
-  slots = (greatest_tells (most_for ports) 0 packets (subst (λ n. n ≤ most_for ports) slots_is slots_few)).1;
-  cells = subst (λ n. n ≤ most_for ports) cells_is cells_few;
-  end = end_is ∙ ap (λ n. n + cells + 1) slots_is ∙ ap (λ n. greatest_slots packets + n + 1) cells_is;
-}
+-- what `is_end` tells of these counts and their greatest
+abbrev pub IsEnd : ℕ → ℕ → ℕ → ℕ → Type 0
+IsEnd slots cells end most = (slots ≤ most) × (cells ≤ most) × (end ≡ slots + cells + 1)
 
-pub totals_to : (ports max_slots slots cells : ℕ) (packets : List (List Planned)) → slots ≡ greatest_slots packets → cells ≡ total_work packets
-    → AreTotals ports max_slots packets → (slots ≤ most_for ports) × (cells ≤ most_for ports) × (max_slots ≡ slots + cells + 1)
-totals_to ports max_slots slots cells packets slots_is cells_is totals = (
-  subst (λ n. n ≤ most_for ports) (sym slots_is) (greatest_few (most_for ports) 0 packets (omega arith) totals.slots),
-  subst (λ n. n ≤ most_for ports) (sym cells_is) totals.cells,
-  totals.end ∙ ap (λ n. n + total_work packets + 1) (sym slots_is) ∙ ap (λ n. slots + n + 1) (sym cells_is),
+pub totals_where : (ports max_slots : ℕ) (packets : List (List Planned))
+    → IsEnd (greatest_slots packets) (total_work packets) max_slots (most_for ports) ↔ AreTotals ports max_slots packets
+totals_where ports max_slots packets = (
+  λ is. record { slots = (greatest_tells (most_for ports) 0 packets is.0).1; cells = is.1; end = is.2 },
+  λ totals. (greatest_few (most_for ports) 0 packets (omega arith) totals.slots, totals.cells, totals.end),
 )
 
 -- ---- all cards as far as a loop has come
@@ -63,9 +58,11 @@ all_end P cards k past before =
     subst (All P) (take_all k (packets_of_cards cards) (let l = length-map cards (λ (c : CardPlan). c.packets.items) in omega arith)) before
 
 -- by the number of each card
+abbrev pub HoldsBelow : ℕ → (ℕ → CardPlan → Type 0) → List CardPlan → Type 0
+HoldsBelow k P cards = (j : ℕ) (c : CardPlan) → j < k → slice_get cards j ≡ Some c → P j c
+
 pub each_next : (P : ℕ → CardPlan → Type 0) (cards : List CardPlan) (k : ℕ) (card : CardPlan) → card ≡ slice_index_or cards k card
-    → ((j : ℕ) (c : CardPlan) → j < k → slice_get cards j ≡ Some c → P j c) → P k card
-    → (j : ℕ) (c : CardPlan) → j < k + 1 → slice_get cards j ≡ Some c → P j c
+    → HoldsBelow k P cards → P k card → HoldsBelow (k + 1) P cards
 each_next P cards k card is before here j c less there = elim (cases_eq j k) [
   | inl same ↦
       let found : slice_get cards k ≡ Some c = subst (λ i. slice_get cards i ≡ Some c) same there in

@@ -1,7 +1,7 @@
 use Rattle.std.proofs.Common.{◌≡◌, ◌∙◌, ◌<◌, [], ◌∷◌, ◌++◌, length, length-append, slice_index_or, refl, sym, ap, subst, arith}
 use Rattle.std.specs.Vec.Iter.{into_iter_items}
 use Rattle.std.proofs.lemmas.Fn.{says}
-use Rattle.std.proofs.lemmas.List.{append-nil, get_or_at, length_push, nil_from_length}
+use Rattle.std.proofs.lemmas.List.{append-nil, get_or_at, nil_from_length}
 use Rattle.std.specs.Fork.{GivesJob}
 use Rattle.std_lemmas.proofs.Lists.{gone_more}
 use Rattle.switch_plan.proofs.InTurn.{given_next}
@@ -26,12 +26,13 @@ loop-job-preserved g c =
     let steps : into_iter_items at.job-iterator ≡ job ∷ rest = c.in-Some.ensures.steps.0 in
     let whole : at.yielded ++ job ∷ rest ≡ _ = ap (λ xs. at.yielded ++ xs) (sym steps) ∙ at.invariant.rest in
     let pushed : c.push.new.self.items ≡ at.answers.items ++ answer ∷ [] = c.in_ok-push.ensures.items in
+    let next = given_next g.F.Fn c.args.f.now _ at.yielded rest job at.answers.items answer whole
+    (record { long = at.invariant.long; given = at.invariant.given }) (says g.F.Fn c.f.ensures refl) in
     record {
       rest = gone_more at.yielded (into_iter_items at.job-iterator) rest _ job at.invariant.rest steps;
       left = let was = at.invariant.left in let gone = c.in-Some.ensures.steps.1 in let short = ap length steps in omega arith;
-      long = let long = at.invariant.long in ap length pushed ∙ omega (arith, length_push at.answers.items answer, length_push at.yielded job);
-      given = given_next g.F.Fn c.args.f.now _ at.yielded rest job at.answers.items c.push.new.self.items answer whole pushed at.invariant.long
-          at.invariant.given (says g.F.Fn c.f.ensures refl);
+      long = ap length pushed ∙ next.long;
+      given = rw pushed next.given;
     }
 
 pub returns-clause-len : goal.returns-clause-len

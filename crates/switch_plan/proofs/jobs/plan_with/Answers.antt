@@ -10,9 +10,10 @@ overflow_cast-result c =
     omega (
       arith,
       end,
-      end_is c.args.ports.items c.args.brought.now c.args.settings.now.depth c.in_ok-cards.cards.items c.deref.result.now
-          c.greatest_slots.result c.total_work-cells.result c.requires.brought c.total_work-cells.ensures c.in_ok-cards.ensures c.deref.ensures.value
-          c.greatest_slots.ensures,
+      end_is c.args.ports.items c.args.brought.now c.args.settings.now.depth c.in_ok-cards.cards.items c.deref.result.now c.requires.brought
+          c.in_ok-cards.ensures c.deref.ensures.value,
+      c.greatest_slots.ensures,
+      c.total_work-cells.ensures,
     )
 
 pub overflow_add-result : goal.overflow_add-result
@@ -27,15 +28,15 @@ returns c =
     let oversize : c.total_oversize-oversize.result ≡ _ = c.total_oversize-oversize.ensures ∙ oversize_is packets c.args.brought.now c.requires.brought in
     let aside = c.total_aside-aside.ensures ∙ aside_is packets c.args.brought.now c.requires.brought in
     let long = c.requires.ports.long in
+    let end = end_is c.args.ports.items c.args.brought.now c.args.settings.now.depth c.in_ok-cards.cards.items c.deref.result.now c.requires.brought
+    c.in_ok-cards.ensures c.deref.ensures.value in
     record {
       nano = refl;
       link = refl;
       rounds = refl;
       depth = refl;
       workers = refl;
-      max_slots = end_is c.args.ports.items c.args.brought.now c.args.settings.now.depth c.in_ok-cards.cards.items c.deref.result.now
-          c.greatest_slots.result c.total_work-cells.result c.requires.brought c.total_work-cells.ensures c.in_ok-cards.ensures c.deref.ensures.value
-          c.greatest_slots.ensures;
+      max_slots = omega (arith, end, c.greatest_slots.ensures, c.total_work-cells.ensures);
       oversize = oversize;
       aside = omega (arith, oversize, aside, long);
       cards = c.in_ok-cards.ensures;

@@ -1,7 +1,7 @@
 use Rattle.std.proofs.Common.{◌≡◌, ◌∙◌, ◌∷◌, [], ◌++◌, List, length, sym, ap, subst, arith}
 use Rattle.std.specs.Prelude.{slice_get}
 use Rattle.std.specs.Vec.Iter.{into_iter_items}
-use Rattle.std.proofs.lemmas.List.{length_push, append-nil, nil_from_length}
+use Rattle.std.proofs.lemmas.List.{append-nil, nil_from_length}
 use Rattle.std.proofs.lemmas.Option.{slice_get_within}
 use Rattle.std_lemmas.proofs.Lists.{gone_more, here_of}
 use Rattle.card_core.specs.declared.plan.CardPlan.{CardPlan}
@@ -57,14 +57,13 @@ loop-port-preserved c =
     let own : IsCardOfPort ports c.args.depth k x card = card_made ports c.args.brought.now c.args.depth k x card c.requires.brought
     (omega (arith, few, inside)) c.in_ok-card_of.ensures in
     let pushed : c.push.new.self.items ≡ at.cards.items ++ card ∷ [] = c.in_ok-push.ensures.items in
+    let more = both_push (IsCardOfPort ports c.args.depth) at.yielded at.cards.items x card
+    (record { count = at.invariant.made; each = at.invariant.cards }) (subst (λ n. IsCardOfPort ports c.args.depth n x card) done own) in
     record {
       rest = gone_more at.yielded rest (into_iter_items c.next.new.self) _ x at.invariant.rest steps;
       left = let was = at.invariant.left in let gone = c.in-Some.ensures.steps.1 in let short = ap length steps in omega arith;
-      made = ap length pushed ∙ omega (arith, length_push at.cards.items card, length_push at.yielded x);
-      cards = λ j port it at_port at_card.
-          both_push (IsCardOfPort ports c.args.depth) at.yielded at.cards.items x card at.invariant.made at.invariant.cards
-          (subst (λ n. IsCardOfPort ports c.args.depth n x card) done own) j port it at_port
-          (ap (λ (cards : List CardPlan). slice_get cards j) (sym pushed) ∙ at_card);
+      made = ap length pushed ∙ more.count;
+      cards = λ j port it at_port at_card. more.each j port it at_port (ap (λ (cards : List CardPlan). slice_get cards j) (sym pushed) ∙ at_card);
     }
 
 pub returns : goal.returns

@@ -1,4 +1,5 @@
-use Rattle.std.proofs.Common.{◌∙◌, List, length-set, ap, sym, subst, arith}
+use Rattle.std.proofs.Common.{◌∙◌, List, [], ◌∷◌, ◌++◌, take, length-set, ap, sym, subst, arith}
+use Rattle.std.proofs.lemmas.List.{take_more}
 use Rattle.card_core.specs.declared.plan.Planned.{Planned}
 use Rattle.card_core.specs.declared.plan.CardPlan.{CardPlan}
 use Rattle.switch_plan.specs.CountingSteps.{AreCountable, packets_of_cards}
@@ -24,9 +25,10 @@ loop-port-preserved c =
     let size = c.loop-port.invariant.size in
     let packets_are = c.deref.ensures.value ∙ ap (λ (card : CardPlan). card.packets.items) (sym c.index-cards-port.is) in
     let is = subst (λ (packets : List Planned). IsBroughtBy packets c.brought_by.result) packets_are c.brought_by.ensures in
+    let next = take_more (packets_of_cards cards) k card.packets.items (omega (arith, inside, cards_long cards))
+    ∙ ap (λ own. take k (packets_of_cards cards) ++ own ∷ []) (packets_at cards k card c.index-cards-port.is) in
     record {
       size = length-set c.loop-port.brought k c.brought_by.result ∙ size;
-      so = brought_more (packets_of_cards cards) c.loop-port.brought k card.packets.items c.brought_by.result (omega (arith, inside, cards_long cards))
-          (omega (arith, inside, few, size)) (packets_at cards k card c.index-cards-port.is) c.loop-port.invariant.so
-          (all_at AreCountable cards k card c.requires.packets inside c.index-cards-port.is) is;
+      so = brought_more (packets_of_cards cards) c.loop-port.brought k card.packets.items c.brought_by.result next (omega (arith, inside, few, size))
+          c.loop-port.invariant.so (all_at AreCountable cards k card c.requires.packets inside c.index-cards-port.is, is);
     }

@@ -1,4 +1,4 @@
-use Rattle.std.proofs.Common.{◌≡◌, ◌∙◌, ◌<◌, ◌≤◌, ℕ, List, length, slice_index_or, refl, ap, sym, subst, arith}
+use Rattle.std.proofs.Common.{◌≡◌, ◌∙◌, ◌+◌, ◌<◌, ◌≤◌, ℕ, List, length, slice_index_or, refl, ap, sym, subst, arith}
 use Rattle.std.specs.Prelude.{map, All}
 use Rattle.std.proofs.lemmas.List.{get_or_default}
 use Rattle.std.proofs.lemmas.List.Elements.{All-nil}
@@ -10,7 +10,7 @@ use Rattle.switch_plan.specs.Traffic.{time_of, stamp_of, planned}
 use Rattle.switch_plan.specs.CountingSteps.{IsForwardable}
 use Rattle.switch_plan.proofs.Times.{no_stored, stamp_is, length-captured_in}
 use Rattle.switch_plan.proofs.Arriving.{can_come}
-use Rattle.switch_plan.proofs.Passing.{so_far_next, end_slots, end_traffic, end_countable}
+use Rattle.switch_plan.proofs.Passing.{SoFar, so_far_next, end_slots, end_traffic, end_countable}
 use Rattle.switch_plan.proofs.port_plans.packets_of.Goals as goal
 
 -- the stamp of a packet that was read is that of the packet at its place
@@ -108,8 +108,9 @@ loop-k-preserved c =
     let room = c.loop-k.invariant.room in
     let kept = c.push_reserved.ensures.capacity in
     record {
-      far = so_far_next c.args.table.now c.args.pace.now capture k c.loop-k.free c.arrival-arrival.result c.stamp_of.result c.planned.result
-          c.loop-k.packets.items c.push_reserved.new.self.items inside c.loop-k.invariant.far
+      far = subst (SoFar c.args.table.now c.args.pace.now capture (k + 1) (c.arrival-arrival.result + 1)) (sym c.push_reserved.ensures.items)
+          (so_far_next c.args.table.now c.args.pace.now capture k c.loop-k.free c.arrival-arrival.result c.stamp_of.result c.planned.result
+          c.loop-k.packets.items inside c.loop-k.invariant.far
           (record {
             stamp_is = stamp_at capture.bytes.items c.index.result.now stored c.stamp_of.result same (c.requires.capture.read.within k no_stored inside)
                 (c.stamp_of.ensures.time capture.bytes.items) c.stamp_of.ensures.cells;
@@ -122,8 +123,7 @@ loop-k-preserved c =
                 ∙ ap (planned c.args.table.now capture.link (packet_in capture.bytes.items stored)) (c.low_bits.ensures within);
             start = c.planned.ensures.start ∙ ap (λ (s : Stored). s.start) same;
             forwarded = c.planned.ensures.forwarded;
-          })
-          c.push_reserved.ensures.items;
+          }));
       routes = c.planned.ensures.table ∙ c.loop-k.invariant.routes;
       long = omega arith;
       room = omega arith;
